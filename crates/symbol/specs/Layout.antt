@@ -10,7 +10,7 @@ use Rattle.std.specs.declared.result.Result.the-variants.{Ok, Err}
 use Rattle.refusal.specs.declared.Refusal.{Refusal}
 use Rattle.refusal.specs.declared.Refusal.the-variants.{WideField, Unsound}
 use Rattle.symbol.specs.declared.Symbol.{Symbol}
-use Rattle.symbol.specs.Check.{checkOf}
+use Rattle.symbol.specs.Check.{checkOf, CheckDivides}
 
 -- Each field has a value that its bits can hold.
 pub record Fits (s : Symbol) : Type 0 where
@@ -49,6 +49,11 @@ Writes s before (Err e) after = (e ≡ WideField) × (Fits s → ⊥) × (after 
 abbrev pub ReadsBack : Symbol → Result (Unit {0}) Refusal → List ℕ → Type 0
 ReadsBack s (Ok done) after = readOf after ≡ Ok s
 ReadsBack s (Err e) after = Unit {0}
+
+-- The check of what was written is the remainder of a division.
+abbrev pub Divides : Symbol → Result (Unit {0}) Refusal → Type 0
+Divides s (Ok done) = CheckDivides (uncheckedOf s)
+Divides s (Err e) = Unit {0}
 
 -- A symbol that was read is written again as the bytes that it was read from.
 abbrev pub WritesBack : List ℕ → Result Symbol Refusal → Type 0

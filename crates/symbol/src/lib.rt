@@ -10,8 +10,9 @@ ghost use mathlib.Core.Path.{_≡_};
 ghost use mathlib.Core.List.{_++_};
 ghost use Prim.Native.Nat.{_+_, _-_, _*_, _/_, _%_, _<_, _≤_};
 ghost use lib.Dec.{T};
-ghost use Rattle.symbol.specs.Check.{tookBit, tookBits, bitsOf, checkOf};
-ghost use Rattle.symbol.specs.Layout.{Fits, uncheckedOf, writtenOf, fieldsOf, readOf, Writes, ReadsBack, WritesBack};
+ghost use Rattle.symbol.specs.Division.{tookBit};
+ghost use Rattle.symbol.specs.Check.{checkOf};
+ghost use Rattle.symbol.specs.Layout.{Fits, uncheckedOf, writtenOf, fieldsOf, readOf, Writes, ReadsBack, Divides, WritesBack};
 use refusal::Refusal;
 
 // A control symbol by the five fields before its check.
@@ -28,7 +29,7 @@ pub struct Symbol {
 fn took_bit(register: u8, bit: u8) -> u8
     requires { ⌜ register < 32 ⌝ ∗ ⌜ bit < 2 ⌝ }
     ensures within { λ r. ⌜ r < 32 ⌝ }
-    ensures value { λ r. ⌜ r ≡ tookBit register bit ⌝ }
+    ensures value { λ r. ⌜ r ≡ tookBit 5 0b10101 register bit ⌝ }
 {
     let moved = register << 1 & 0b11111;
     if register >> 4 == bit {
@@ -102,6 +103,7 @@ impl Symbol {
     pub fn write(self, place: &mut [u8; 3]) -> Result<(), Refusal>
         ensures value { λ r. ⌜ Writes self (now (place .entry)) r (now (place .exit)) ⌝ }
         ensures reads_back { λ r. ⌜ ReadsBack self r (now (place .exit)) ⌝ }
+        ensures divides { λ r. ⌜ Divides self r ⌝ }
     {
         if !self.fits() {
             return Err(Refusal::WideField);

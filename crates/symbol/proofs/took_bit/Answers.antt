@@ -6,7 +6,6 @@ use lib.Bits.{bitAnd, bitXor, xor-zero-r}
 use lib.Dec.{eqb}
 use borrow.Author.Tests.{eq-eqb, ne-eqb}
 use Rattle.std.proofs.shelf.Bits.{and-mask, xor-lt}
-use Rattle.symbol.specs.Check.{tookBit}
 use Rattle.symbol.proofs.took_bit.Needs as need
 
 -- the register moved up by one place

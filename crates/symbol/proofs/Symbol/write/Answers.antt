@@ -7,6 +7,7 @@ use Rattle.std.specs.declared.result.Result.the-variants.{Ok}
 use Rattle.symbol.specs.Check.{checkOf}
 use Rattle.symbol.specs.Layout.{Fits, uncheckedOf, writtenOf, readOf}
 use Rattle.symbol.proofs.Bytes.{joined, reads-written}
+use Rattle.symbol.proofs.Register.{check-divides}
 use Rattle.symbol.proofs.Symbol.write.Needs as need
 
 pub returns : need.returns
@@ -20,4 +21,4 @@ returns c =
     let small : checkOf (uncheckedOf s) < 32 = subst (λ (x : ℕ). x < 32) k (c .check-check .ensures .within) in
     let whole : bitOr (s .stype0 * 32 % 256) (s .parameter0) ∷ bitOr (s .parameter1 * 8 % 256) (s .stype1) ∷ bitOr (s .cmd * 32 % 256) (c .check-check .result) ∷ [] ≡ writtenOf s =
     λ j. a j ∷ b j ∷ (d ∙ ap (λ x. s .cmd * 32 + x) k) j ∷ [] in
-    record { value = (f, whole); reads-back = ap readOf whole ∙ reads-written s f small }
+    record { value = (f, whole); reads-back = ap readOf whole ∙ reads-written s f small; divides = check-divides (uncheckedOf s) }

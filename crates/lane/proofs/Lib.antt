@@ -1,0 +1,4 @@
+pub mod Filled
+pub mod Planned
+pub mod Spoilt
+pub mod Fronts

@@ -1,0 +1,4 @@
+pub mod Meaning
+pub mod Slots
+pub mod Plans
+pub mod Carrying

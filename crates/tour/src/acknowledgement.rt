@@ -10,7 +10,7 @@ use symbol::codes::Stype1;
 
 // The symbol that says that the packet numbered `ack_id` was accepted. A 31 in its second parameter
 // says that the receiver keeps the pace by retries.
-fn accepted(ack_id: u8) -> Symbol
+pub(crate) fn accepted(ack_id: u8) -> Symbol
     ensures { λ r. ⌜ r ≡ acceptedOf «ack_id» ⌝ }
 {
     Symbol {

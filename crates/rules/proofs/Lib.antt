@@ -1,0 +1,16 @@
+pub mod Numbers
+pub mod Replies
+pub mod Packets
+pub mod Direction
+pub mod Hears
+pub mod Puts
+pub mod Keeps
+pub mod Half
+pub mod Moves
+pub mod Phases
+pub mod Progress
+pub mod Finish
+pub mod Relations
+pub mod Delivers
+pub mod SerialWire
+pub mod Windows

@@ -1,0 +1,9 @@
+pub mod Wire
+pub mod Port
+pub mod Hearing
+pub mod Calls
+pub mod Link
+pub mod Rounds
+pub mod Delivery
+pub mod Serial
+pub mod Facts

@@ -2,6 +2,7 @@
 mod acknowledgement;
 mod crossing;
 mod frames;
+mod journey;
 mod strip;
 
 use std::io;
@@ -9,5 +10,6 @@ use std::io;
 fn main(rt: LibcRuntime) -> io::Result<()> {
     acknowledgement::tour(&rt)?;
     strip::tour(&rt)?;
-    crossing::tour(&rt)
+    crossing::tour(&rt)?;
+    journey::tour(&rt)
 }

@@ -1,0 +1,4 @@
+pub mod Performing
+pub mod Recorded
+pub mod Joint
+pub mod Model

@@ -12,14 +12,14 @@ pub struct AckId {
 }
 
 impl AckId {
-    pub fn zero() -> AckId
+    pub(crate) fn zero() -> AckId
         ensures { λ r. ⌜ r .value ≡ 0 ⌝ }
     {
         AckId { value: 0 }
     }
 
     // The one that comes after it: 0 after 31.
-    pub fn next(self) -> AckId
+    pub(crate) fn next(self) -> AckId
         ensures { λ r. ⌜ r .value ≡ (self .value + 1) % 32 ⌝ }
     {
         AckId {

@@ -5,7 +5,7 @@ ghost use Prim.Native.Nat.{_≤_};
 ghost use lib.ListN.{length, drop};
 
 // Copies `from` to the front of `to`, which keeps what is behind.
-pub fn copy_to(to: &mut [u8], from: &[u8])
+pub(crate) fn copy_to(to: &mut [u8], from: &[u8])
     requires { ⌜ length (now from) ≤ length (now to) ⌝ }
     ensures { λ _. ⌜ now (to .exit) ≡ now (from .entry) ++ drop (length (now (from .entry))) (now (to .entry)) ⌝ }
 {

@@ -20,7 +20,7 @@ pub struct SendSlots {
 }
 
 impl SendSlots {
-    pub fn new() -> SendSlots
+    pub(crate) fn new() -> SendSlots
         ensures { λ r. ⌜ length (r .all) ≡ 31 ⌝ }
     {
         SendSlots {
@@ -29,7 +29,7 @@ impl SendSlots {
     }
 
     // Seals a load in the slot i.
-    pub fn seal(&mut self, i: usize, load: &[u8])
+    pub(crate) fn seal(&mut self, i: usize, load: &[u8])
         requires { ⌜ i < 31 ⌝ ∗ ⌜ Sealable (length (now load)) ⌝ }
         ensures places { λ _. ⌜ length (now (self .exit) .all) ≡ length (now (self .entry) .all) ⌝ }
         ensures sealed { λ _. ⌜ packetsIn (now (self .exit)) ≡ set (packetsIn (now (self .entry))) i (sealedOf (now (load .entry))) ⌝ }
@@ -38,7 +38,7 @@ impl SendSlots {
     }
 
     // Copies the packet in the slot i to the front of a buffer and answers its length.
-    pub fn copy_out(&self, i: usize, buffer: &mut [u8]) -> usize
+    pub(crate) fn copy_out(&self, i: usize, buffer: &mut [u8]) -> usize
         requires { ⌜ i < 31 ⌝ ∗ ⌜ 276 ≤ length (now buffer) ⌝ }
         ensures len { λ r. ⌜ r ≡ length (getD (packetsIn (now (self .entry))) i []) ⌝ }
         ensures bounds { λ r. ⌜ (1 ≤ r) × (r ≤ 276) ⌝ }
@@ -56,14 +56,14 @@ pub struct ReceiveSlots {
 }
 
 impl ReceiveSlots {
-    pub fn new() -> ReceiveSlots {
+    pub(crate) fn new() -> ReceiveSlots {
         ReceiveSlots {
             all: [Slot::new(); RECEIVE_SLOTS],
         }
     }
 
     // Stores a packet in the slot i, its first six bits set to zero.
-    pub fn store(&mut self, i: usize, packet: &[u8])
+    pub(crate) fn store(&mut self, i: usize, packet: &[u8])
         requires { ⌜ i < 8 ⌝ ∗ ⌜ 1 ≤ length (now packet) ⌝ ∗ ⌜ length (now packet) ≤ 276 ⌝ }
         ensures stored { λ _. ⌜ frontIn (now (self .exit)) i (length (now (packet .entry))) ≡ clearedOf (now (packet .entry)) ⌝ }
         ensures others { λ _. ⌜ ((j n : ℕ) → (j ≡ i → ⊥) → frontIn (now (self .exit)) j n ≡ frontIn (now (self .entry)) j n) ⌝ }
@@ -72,7 +72,7 @@ impl ReceiveSlots {
     }
 
     // Copies the first n bytes in the slot i to the front of a buffer.
-    pub fn copy_front(&self, i: usize, n: usize, buffer: &mut [u8])
+    pub(crate) fn copy_front(&self, i: usize, n: usize, buffer: &mut [u8])
         requires { ⌜ i < 8 ⌝ ∗ ⌜ n ≤ 276 ⌝ ∗ ⌜ 276 ≤ length (now buffer) ⌝ }
         ensures bytes { λ _. ⌜ now (buffer .exit) ≡ frontIn (now (self .entry)) i n ++ drop n (now (buffer .entry)) ⌝ }
         ensures len { λ _. ⌜ length (frontIn (now (self .entry)) i n) ≡ n ⌝ }

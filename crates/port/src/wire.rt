@@ -31,7 +31,7 @@ fn symbol_of(says: Stype0, ack_id: u8, parameter1: u8, asks: Stype1) -> Symbol
 }
 
 // The symbol of a reply.
-pub fn reply_symbol(reply: Reply) -> Symbol
+pub(crate) fn reply_symbol(reply: Reply) -> Symbol
     requires { ⌜ ackIdOf reply < 32 ⌝ }
     ensures value { λ r. ⌜ r ≡ replySymbol reply ⌝ }
     ensures fits { λ r. ⌜ Fits r ⌝ }
@@ -60,7 +60,7 @@ pub fn reply_symbol(reply: Reply) -> Symbol
 }
 
 // The symbol that asks something, with the ackID that its sender expects.
-pub fn asking_symbol(asks: Stype1, ack_id: u8) -> Symbol
+pub(crate) fn asking_symbol(asks: Stype1, ack_id: u8) -> Symbol
     requires { ⌜ «ack_id» < 32 ⌝ }
     ensures value { λ r. ⌜ r ≡ askingSymbol asks «ack_id» ⌝ }
     ensures fits { λ r. ⌜ Fits r ⌝ }
@@ -69,7 +69,7 @@ pub fn asking_symbol(asks: Stype1, ack_id: u8) -> Symbol
 }
 
 // Writes a symbol to the front of a buffer and answers its length.
-pub fn write_symbol(symbol: Symbol, buffer: &mut [u8]) -> usize
+pub(crate) fn write_symbol(symbol: Symbol, buffer: &mut [u8]) -> usize
     requires { ⌜ Fits symbol ⌝ ∗ ⌜ 3 ≤ length (now buffer) ⌝ }
     ensures len { λ r. ⌜ r ≡ 3 ⌝ }
     ensures bytes { λ _. ⌜ now (buffer .exit) ≡ writtenOf symbol ++ drop 3 (now (buffer .entry)) ⌝ }
@@ -81,14 +81,14 @@ pub fn write_symbol(symbol: Symbol, buffer: &mut [u8]) -> usize
 }
 
 // What a symbol says.
-pub fn says(symbol: Symbol) -> Option<Stype0>
+pub(crate) fn says(symbol: Symbol) -> Option<Stype0>
     ensures { λ r. ⌜ r ≡ saysOf (symbol .stype0) ⌝ }
 {
     Stype0::from_code(symbol.stype0)
 }
 
 // What a symbol asks.
-pub fn asks(symbol: Symbol) -> Option<Stype1>
+pub(crate) fn asks(symbol: Symbol) -> Option<Stype1>
     ensures { λ r. ⌜ r ≡ asksOf (symbol .stype1) (symbol .cmd) ⌝ }
 {
     Stype1::from_codes(symbol.stype1, symbol.cmd)

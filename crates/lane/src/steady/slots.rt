@@ -13,7 +13,7 @@ use fifo::ring::place;
 
 impl Slot {
     // A slot that holds a frame.
-    pub fn of(frame: &[u8]) -> Slot
+    pub(crate) fn of(frame: &[u8]) -> Slot
         requires { ⌜ 1 ≤ length (now frame) ⌝ ∗ ⌜ length (now frame) ≤ 276 ⌝ }
         ensures { λ r. ⌜ held r ≡ now (frame .entry) ⌝ }
     {
@@ -26,7 +26,7 @@ impl Slot {
     }
 
     // Copies the frame to the front of a buffer and answers its length.
-    pub fn copy_out(&self, buffer: &mut [u8]) -> usize
+    pub(crate) fn copy_out(&self, buffer: &mut [u8]) -> usize
         requires { ⌜ 276 ≤ length (now buffer) ⌝ }
         ensures length { λ r. ⌜ r ≡ length (held (now (self .entry))) ⌝ }
         ensures bytes { λ _. ⌜ now (buffer .exit) ≡ held (now (self .entry)) ++ drop (length (held (now (self .entry)))) (now (buffer .entry)) ⌝ }
@@ -38,7 +38,7 @@ impl Slot {
 
 impl Steady {
     // Adds a slot behind those that hold frames.
-    pub fn push(&mut self, slot: Slot)
+    pub(crate) fn push(&mut self, slot: Slot)
         requires { ⌜ now self .len < 16 ⌝ }
         ensures { λ _. ⌜ framesOf (now (self .exit)) ≡ framesOf (now (self .entry)) ++ held slot ∷ [] ⌝ }
     {
@@ -48,7 +48,7 @@ impl Steady {
     }
 
     // Removes the oldest slot that holds a frame.
-    pub fn pop(&mut self) -> Slot
+    pub(crate) fn pop(&mut self) -> Slot
         requires { ⌜ 0 < now self .len ⌝ }
         ensures { λ r. ⌜ framesOf (now (self .entry)) ≡ held r ∷ framesOf (now (self .exit)) ⌝ }
     {

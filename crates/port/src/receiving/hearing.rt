@@ -20,7 +20,7 @@ use symbol::codes::Stype1;
 
 impl<'r, 'w> Receiving<'r, 'w> {
     // Whether there is no place for another reply.
-    pub fn replies_full(&self) -> bool
+    pub(crate) fn replies_full(&self) -> bool
         ensures { λ r. ⌜ r ≡ leb (placesIn (now (self .entry)) .replies) (length (receiverOf (now (self .entry)) .pending)) ⌝ }
     {
         self.replies.places() <= self.replies.len()
@@ -48,7 +48,7 @@ impl<'r, 'w> Receiving<'r, 'w> {
     }
 
     // What the second half of a symbol asks.
-    pub fn obey(&mut self, asks: Option<Stype1>)
+    pub(crate) fn obey(&mut self, asks: Option<Stype1>)
         requires { ⌜ length (receiverOf (now self) .pending) < placesIn (now self) .replies ⌝ }
         ensures receiver { λ _. ⌜ receiverOf (now (self .exit)) ≡ asked (receiverOf (now (self .entry)) .input) asks (receiverOf (now (self .entry))) ⌝ }
         ensures places { λ _. ⌜ placesIn (now (self .exit)) ≡ placesIn (now (self .entry)) ⌝ }
@@ -64,7 +64,7 @@ impl<'r, 'w> Receiving<'r, 'w> {
     }
 
     // An unsound frame.
-    pub fn reject(&mut self, cause: Cause)
+    pub(crate) fn reject(&mut self, cause: Cause)
         requires { ⌜ length (receiverOf (now self) .pending) < placesIn (now self) .replies ⌝ }
         ensures receiver { λ _. ⌜ receiverOf (now (self .exit)) ≡ rejected (receiverOf (now (self .entry)) .input) cause (receiverOf (now (self .entry))) ⌝ }
         ensures places { λ _. ⌜ placesIn (now (self .exit)) ≡ placesIn (now (self .entry)) ⌝ }
@@ -82,7 +82,7 @@ impl<'r, 'w> Receiving<'r, 'w> {
     }
 
     // A sound packet, under its ackID.
-    pub fn arrive(&mut self, ack_id: u8, packet: &[u8])
+    pub(crate) fn arrive(&mut self, ack_id: u8, packet: &[u8])
         requires { ⌜ length (receiverOf (now self) .pending) < placesIn (now self) .replies ⌝ ∗ ⌜ 1 ≤ length (now packet) ⌝ ∗ ⌜ length (now packet) ≤ 276 ⌝ }
         ensures receiver { λ _. ⌜ receiverOf (now (self .exit)) ≡ arrived 32 (placesIn (now (self .entry))) (receiverOf (now (self .entry)) .input) «ack_id» (clearedOf (now (packet .entry))) (receiverOf (now (self .entry))) ⌝ }
         ensures places { λ _. ⌜ placesIn (now (self .exit)) ≡ placesIn (now (self .entry)) ⌝ }
@@ -104,14 +104,14 @@ impl<'r, 'w> Receiving<'r, 'w> {
     }
 
     // Whether a reply is pending.
-    pub fn has_reply(&self) -> bool
+    pub(crate) fn has_reply(&self) -> bool
         ensures { λ r. ⌜ r ≡ ltb 0 (length (receiverOf (now (self .entry)) .pending)) ⌝ }
     {
         self.replies.len() > 0
     }
 
     // Removes the oldest pending reply, where there is one.
-    pub fn take_reply(&mut self) -> Option<Reply>
+    pub(crate) fn take_reply(&mut self) -> Option<Reply>
         ensures answer { λ r. ⌜ r ≡ oldest (receiverOf (now (self .entry)) .pending) ⌝ }
         ensures within { λ r. ⌜ Cases r (Unit {0}) (λ y. ackIdOf y < 32) ⌝ }
         ensures receiver { λ _. ⌜ receiverOf (now (self .exit)) ≡ leaving (drop 1 (receiverOf (now (self .entry)) .pending)) (receiverOf (now (self .entry))) ⌝ }

@@ -19,7 +19,10 @@ use refusal::Refusal;
 use rules::state::Input;
 
 impl<'r, 'w> Receiving<'r, 'w> {
-    pub fn new(replies: &'r mut [PendingReply], records: &'w mut [WaitingSlot]) -> Receiving<'r, 'w>
+    pub(crate) fn new(
+        replies: &'r mut [PendingReply],
+        records: &'w mut [WaitingSlot],
+    ) -> Receiving<'r, 'w>
         ensures receiver { λ r. ⌜ ((places : Places) → receiverOf r ≡ fresh places .receiver) ⌝ }
         ensures replies { λ r. ⌜ placesIn r .replies ≡ length (now (replies .entry)) ⌝ }
         ensures packets { λ r. ⌜ placesIn r .packets ≡ length (now (records .entry)) ⌝ }
@@ -63,7 +66,7 @@ impl<'r, 'w> Receiving<'r, 'w> {
     }
 
     // Stores a packet, its first six bits set to zero, where there is a free slot and a place for its record.
-    pub fn store(&mut self, packet: &[u8]) -> bool
+    pub(crate) fn store(&mut self, packet: &[u8]) -> bool
         requires { ⌜ 1 ≤ length (now packet) ⌝ ∗ ⌜ length (now packet) ≤ 276 ⌝ }
         ensures answer { λ r. ⌜ r ≡ hasSlot (placesIn (now (self .entry))) (receiverOf (now (self .entry)) .waiting) ⌝ }
         ensures receiver { λ r. ⌜ receiverOf (now (self .exit)) ≡ keeping (stored r (clearedOf (now (packet .entry))) (receiverOf (now (self .entry)) .waiting)) (receiverOf (now (self .entry))) ⌝ }
@@ -86,7 +89,7 @@ impl<'r, 'w> Receiving<'r, 'w> {
     }
 
     // Copies the oldest packet to the front of a buffer, answers its length and removes it. Refused with 4 where none waits.
-    pub fn give(&mut self, buffer: &mut [u8]) -> Result<usize, Refusal>
+    pub(crate) fn give(&mut self, buffer: &mut [u8]) -> Result<usize, Refusal>
         requires { ⌜ 276 ≤ length (now buffer) ⌝ }
         ensures gives { λ r. ⌜ Gives (receiverOf (now (self .entry)) .waiting) (now (buffer .entry)) r (receiverOf (now (self .exit)) .waiting) (now (buffer .exit)) ⌝ }
         ensures receiver { λ _. ⌜ receiverOf (now (self .exit)) ≡ keeping (receiverOf (now (self .exit)) .waiting) (receiverOf (now (self .entry))) ⌝ }

@@ -52,7 +52,7 @@ impl Sending {
     }
 
     // What a symbol says first, by the output, with an ackID and a second parameter.
-    pub fn hear(&mut self, says: Option<Stype0>, ack_id: u8, parameter1: u8)
+    pub(crate) fn hear(&mut self, says: Option<Stype0>, ack_id: u8, parameter1: u8)
         requires { ⌜ «ack_id» < 32 ⌝ }
         ensures { λ _. ⌜ senderOf (now (self .exit)) ≡ said 32 (senderOf (now (self .entry)) .output) says «ack_id» parameter1 (senderOf (now (self .entry))) ⌝ }
     {
@@ -82,7 +82,7 @@ impl Sending {
     }
 
     // What was sent and stays unanswered is asked for. Answers whether there was such.
-    pub fn time_out(&mut self) -> bool
+    pub(crate) fn time_out(&mut self) -> bool
         ensures answer { λ r. ⌜ r ≡ overdue (senderOf (now (self .entry))) ⌝ }
         ensures sender { λ r. ⌜ senderOf (now (self .exit)) ≡ asking r (senderOf (now (self .entry))) ⌝ }
     {

@@ -20,7 +20,7 @@ use packet::header;
 use rules::state::Output;
 
 impl Sending {
-    pub fn new() -> Sending
+    pub(crate) fn new() -> Sending
         ensures { λ r. ⌜ ((places : Places) → senderOf r ≡ fresh places .sender) ⌝ }
     {
         Sending {
@@ -32,7 +32,7 @@ impl Sending {
     }
 
     // How many packets are held.
-    pub fn held(&self) -> usize
+    pub(crate) fn held(&self) -> usize
         ensures value { λ r. ⌜ r ≡ length (senderOf (now (self .entry)) .held) ⌝ }
         ensures most { λ r. ⌜ r ≤ 31 ⌝ }
     {
@@ -40,14 +40,14 @@ impl Sending {
     }
 
     // The output turns to another state.
-    pub fn turn(&mut self, output: Output)
+    pub(crate) fn turn(&mut self, output: Output)
         ensures { λ _. ⌜ senderOf (now (self .exit)) ≡ turned output (senderOf (now (self .entry))) ⌝ }
     {
         self.output = output;
     }
 
     // Seals a load and holds its packet.
-    pub fn hold(&mut self, load: &[u8])
+    pub(crate) fn hold(&mut self, load: &[u8])
         requires { ⌜ Sealable (length (now load)) ⌝ ∗ ⌜ length (senderOf (now self) .held) < 31 ⌝ }
         ensures { λ _. ⌜ senderOf (now (self .exit)) ≡ holding (sealedOf (now (load .entry))) (senderOf (now (self .entry))) ⌝ }
     {
@@ -57,14 +57,14 @@ impl Sending {
     }
 
     // Whether a packet is held that was not sent since the last rewind.
-    pub fn has_unsent(&self) -> bool
+    pub(crate) fn has_unsent(&self) -> bool
         ensures { λ r. ⌜ r ≡ ltb (senderOf (now (self .entry)) .sent) (length (senderOf (now (self .entry)) .held)) ⌝ }
     {
         self.window.sent < self.window.held
     }
 
     // Writes the next packet to the front of a buffer, stamped with its ackID, and answers its length.
-    pub fn send(&mut self, buffer: &mut [u8]) -> usize
+    pub(crate) fn send(&mut self, buffer: &mut [u8]) -> usize
         requires { ⌜ senderOf (now self) .output ≡ Running ⌝ ∗ ⌜ senderOf (now self) .sent < length (senderOf (now self) .held) ⌝ ∗ ⌜ 276 ≤ length (now buffer) ⌝ }
         ensures len { λ r. ⌜ r ≡ length (nextFrame (senderOf (now (self .entry)))) ⌝ }
         ensures bounds { λ r. ⌜ (1 ≤ r) × (r ≤ 276) ⌝ }

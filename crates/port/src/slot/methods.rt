@@ -13,7 +13,7 @@ use packet::sealing;
 use packet::sealing::LONGEST;
 
 impl Slot {
-    pub fn new() -> Slot {
+    pub(crate) fn new() -> Slot {
         Slot {
             bytes: [0; LONGEST],
             len: 1,
@@ -21,7 +21,7 @@ impl Slot {
     }
 
     // Writes the packet that a load is sealed to.
-    pub fn seal(&mut self, load: &[u8])
+    pub(crate) fn seal(&mut self, load: &[u8])
         requires { ⌜ Sealable (length (now load)) ⌝ }
         ensures { λ _. ⌜ packetIn (now (self .exit)) ≡ sealedOf (now (load .entry)) ⌝ }
     {
@@ -31,7 +31,7 @@ impl Slot {
     }
 
     // Writes a packet that came, its first six bits set to zero.
-    pub fn store(&mut self, packet: &[u8])
+    pub(crate) fn store(&mut self, packet: &[u8])
         requires { ⌜ 1 ≤ length (now packet) ⌝ ∗ ⌜ length (now packet) ≤ 276 ⌝ }
         ensures packet { λ _. ⌜ packetIn (now (self .exit)) ≡ clearedOf (now (packet .entry)) ⌝ }
         ensures len { λ _. ⌜ now (self .exit) .len ≡ length (now (packet .entry)) ⌝ }
@@ -42,7 +42,7 @@ impl Slot {
     }
 
     // Copies the first n bytes to the front of a buffer.
-    pub fn copy_front(&self, n: usize, buffer: &mut [u8])
+    pub(crate) fn copy_front(&self, n: usize, buffer: &mut [u8])
         requires { ⌜ n ≤ 276 ⌝ ∗ ⌜ 276 ≤ length (now buffer) ⌝ }
         ensures bytes { λ _. ⌜ now (buffer .exit) ≡ take n (now (self .entry) .bytes) ++ drop n (now (buffer .entry)) ⌝ }
         ensures len { λ _. ⌜ length (take n (now (self .entry) .bytes)) ≡ n ⌝ }
@@ -51,7 +51,7 @@ impl Slot {
     }
 
     // Copies the packet to the front of a buffer and answers its length.
-    pub fn copy_out(&self, buffer: &mut [u8]) -> usize
+    pub(crate) fn copy_out(&self, buffer: &mut [u8]) -> usize
         requires { ⌜ 276 ≤ length (now buffer) ⌝ }
         ensures len { λ r. ⌜ r ≡ length (packetIn (now (self .entry))) ⌝ }
         ensures bounds { λ r. ⌜ (1 ≤ r) × (r ≤ 276) ⌝ }

@@ -7,7 +7,7 @@ use super::Window;
 use crate::ack::ACK_IDS;
 
 impl Window {
-    pub fn new() -> Window
+    pub(crate) fn new() -> Window
         ensures { λ r. ⌜ Is r 0 0 0 0 ⌝ }
     {
         Window {
@@ -19,7 +19,7 @@ impl Window {
     }
 
     // The ackID of the next packet to be sent.
-    pub fn next_ack_id(self) -> u8
+    pub(crate) fn next_ack_id(self) -> u8
         ensures value { λ r. ⌜ r ≡ after 32 (self .first) (self .sent) ⌝ }
         ensures within { λ r. ⌜ r < 32 ⌝ }
     {
@@ -27,7 +27,7 @@ impl Window {
     }
 
     // How far an ackID comes after the first.
-    pub fn distance_to(self, ack_id: u8) -> u8
+    pub(crate) fn distance_to(self, ack_id: u8) -> u8
         requires { ⌜ «ack_id» < 32 ⌝ }
         ensures { λ r. ⌜ r ≡ distance 32 «ack_id» (self .first) ⌝ }
     {
@@ -35,7 +35,7 @@ impl Window {
     }
 
     // One more packet is held.
-    pub fn hold(self) -> Window
+    pub(crate) fn hold(self) -> Window
         requires { ⌜ self .held < 31 ⌝ }
         ensures { λ r. ⌜ Is r (self .first) (self .held + 1) (self .sent) (self .high) ⌝ }
     {
@@ -48,7 +48,7 @@ impl Window {
     }
 
     // One more packet is sent.
-    pub fn send(self) -> Window
+    pub(crate) fn send(self) -> Window
         requires { ⌜ self .sent < self .held ⌝ }
         ensures { λ r. ⌜ Is r (self .first) (self .held) (self .sent + 1) (max (self .high) (self .sent + 1)) ⌝ }
     {
@@ -62,7 +62,7 @@ impl Window {
     }
 
     // The first d packets are freed, and s of the others count as sent.
-    pub fn free(self, d: u8, s: u8) -> Window
+    pub(crate) fn free(self, d: u8, s: u8) -> Window
         requires { ⌜ d + s ≤ self .high ⌝ }
         ensures { λ r. ⌜ Is r (after 32 (self .first) d) (self .held - d) s (self .high - d) ⌝ }
     {
@@ -75,7 +75,7 @@ impl Window {
     }
 
     // All packets held are to be sent again.
-    pub fn rewind(self) -> Window
+    pub(crate) fn rewind(self) -> Window
         ensures { λ r. ⌜ Is r (self .first) (self .held) 0 (self .high) ⌝ }
     {
         Window {

@@ -1,5 +1,7 @@
 // The bench: plays a script of calls on a link of two ports, and prints a line for each line of the script.
 // Both lanes are noisy over steady, and each queue has 8 places. At most 65,536 bytes of the script are read.
+#![tactic(auto)]
+
 mod playing;
 
 use std::io::Read;

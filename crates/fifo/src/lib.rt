@@ -1,6 +1,8 @@
 // A first-in-first-out queue over memory that its user lends, for elements of any type that can be copied.
 // Promised: a queue is the list of what it holds, the oldest first. It holds as many as there are places, be it none.
 // Putting adds at the end, taking gives the oldest, and a refused call changes nothing. No call asks anything of its caller.
+#![tactic(auto)]
+
 pub mod ring;
 #[cfg(test)]
 mod tests;

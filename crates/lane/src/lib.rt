@@ -2,6 +2,8 @@
 // A lane is known by the list of frames that wait in it. What is put may be kept, be lost or turn into an unsound frame, and put
 // answers alike; what waits is taken in order, once, and unaltered. A refused call changes nothing.
 // `Steady` keeps every frame; `Noisy`, over any lane, does to each what its plan says.
+#![tactic(auto)]
+
 pub mod carrying;
 mod copying;
 pub mod noisy;

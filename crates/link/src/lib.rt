@@ -2,6 +2,8 @@
 // `Link::perform` does one of the five calls at one of the ports. Promised of each: it answers and leaves what the
 // rules say, a refused call changes nothing, and whatever run of calls brought the link where it was, delivery holds
 // where it is now: nothing is lost, nothing comes twice or out of order, and a link at rest recovers.
+#![tactic(auto)]
+
 pub mod call;
 mod joined;
 mod performing;

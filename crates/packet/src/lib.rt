@@ -3,6 +3,8 @@
 // load as parts of it, and a frame is classified as a symbol, a packet or unsound.
 // Promised: what sealing writes, byte for byte; that it is sound; that opening it gives the load back; that the check
 // answers exactly the definition of sound; and that stamping an ackID changes no other bit and no soundness.
+#![tactic(auto)]
+
 pub mod check;
 pub mod crc;
 pub mod facts;

@@ -3,6 +3,8 @@
 // Promised: each of the five calls, submit, send, receive, collect and time_out, answers what the rules say, and leaves the
 // port, the lane and the buffer as they say, whatever the lane; a refused call leaves all three as they were.
 // No call asks anything of its caller.
+#![tactic(auto)]
+
 mod ack;
 mod bytes;
 mod calls;

@@ -1,5 +1,7 @@
 // Why a call is refused. Every call of the link library that can refuse answers one of these,
 // and each stands for one number, by which the bench prints it. A refused call changes nothing.
+#![tactic(auto)]
+
 ghost use Rattle.std.specs.Prelude.{◌≡◌, ◌≤◌};
 ghost use Rattle.refusal.specs.declared.Refusal.{Refusal};
 ghost use Rattle.refusal.specs.Numbers.{number_of};

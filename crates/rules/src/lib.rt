@@ -1,6 +1,8 @@
 // The rules of a link of two ports as definitions, and the delivery law proved of every run of such a link.
 // There is no port in code here: specs/ says what a port is, what its calls make of it, and what a run is, over any
 // wire format and any number of ackIDs. The functions below promise the laws to whoever builds on them.
+#![tactic(auto)]
+
 pub mod state;
 
 ghost use Rattle.std.specs.Prelude.{◌≡◌, length};

@@ -2,6 +2,8 @@
 // Writing takes the five fields before the check and refuses one that does not fit its bits; reading takes bytes
 // of any number and refuses all but three that pass their check.
 // Promised: fields written are the fields read, and bytes that were read are written again as those bytes.
+#![tactic(auto)]
+
 pub mod codes;
 #[cfg(test)]
 mod tests;

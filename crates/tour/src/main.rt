@@ -1,4 +1,6 @@
 // A tour of the link library: each step does something real with it and prints what came of it.
+#![tactic(auto)]
+
 mod acknowledgement;
 mod crossing;
 mod frames;

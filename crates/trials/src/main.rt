@@ -1,5 +1,7 @@
 // Trials of the link library: what a reader of the rules could get wrong and no listed fact states, each tried by calls and
 // printed. The gate compares what is printed.
+#![tactic(auto)]
+
 mod frames;
 mod holding;
 mod lanes;

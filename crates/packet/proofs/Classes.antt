@@ -1,5 +1,5 @@
 -- What a frame is, by what it is read as. Assumes nothing.
-use Rattle.std.proofs.Common.{◌≡◌, ℕ, ◌<◌, ◌≤◌, Bool, true, false, cond, List, [], ◌∷◌, length, Ok, Err, Result, sym, refl, ap, ◌∙◌, subst, arith}
+use Rattle.std.proofs.Common.{◌≡◌, ℕ, ◌<◌, true, false, cond, List, [], ◌∷◌, length, Ok, Err, Result, refl, ap, ◌∙◌, arith}
 use Rattle.std.proofs.lemmas.Bool.{cond-true, cond-false}
 use Rattle.refusal.specs.declared.Refusal.{Refusal}
 use Rattle.refusal.specs.declared.Refusal.TheVariants.{Unsound as UnsoundBytes}
@@ -7,9 +7,8 @@ use Rattle.symbol.specs.declared.Symbol.{Symbol as Fields}
 use Rattle.symbol.specs.declared.codes.Cause.TheVariants.{InvalidCharacter}
 use Rattle.symbol.specs.Layout.{Fits, written_of, read_of, unchecked_of}
 use Rattle.symbol.proofs.Bytes.{reads_written}
-use Rattle.packet.specs.declared.frame.Kind.{Kind}
 use Rattle.packet.specs.declared.frame.Kind.TheVariants.{Symbol, Packet, Unsound}
-use Rattle.packet.specs.Crc.{cleared_of, run_of}
+use Rattle.packet.specs.Crc.{cleared_of}
 use Rattle.packet.specs.Header.{stamped_of}
 use Rattle.packet.specs.Sealing.{Sealable, sealed_of}
 use Rattle.packet.specs.Soundness.{sound_of, Sound}

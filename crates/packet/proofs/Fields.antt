@@ -1,10 +1,9 @@
 -- The fields of a packet's first two bytes. Assumes nothing.
-use Rattle.std.proofs.Common.{◌≡◌, ℕ, zero, suc, ◌+◌, ◌*◌, ◌/◌, ◌%◌, ◌<◌, ◌≤◌, List, [], ◌∷◌, length, get_or, set, Some, None, Option, sym, refl, ap, ◌∙◌, arith}
+use Rattle.std.proofs.Common.{◌≡◌, ℕ, ◌+◌, ◌*◌, ◌/◌, ◌%◌, ◌<◌, ◌≤◌, List, [], ◌∷◌, length, get_or, set, Some, refl, ap, ◌∙◌, arith}
 use lib.Bits.{bit_and, bit_or}
 use Rattle.std.proofs.lemmas.Nat.{and_mask, or_shifted}
 use Rattle.packet.specs.Crc.{cleared_of}
 use Rattle.packet.specs.Header.{ack_id_of, stamped_of, unstamped_of, in_byte1, SameButAckId}
-use Rattle.packet.specs.Soundness.{sound_of}
 use Rattle.packet.proofs.Sounds.{sound_same}
 
 pub in_byte1_lem : (field : ℕ → ℕ) (xs : List ℕ) (x : ℕ) → 2 ≤ length xs → x ≡ field (get_or xs 1 0) → Some x ≡ in_byte1 field xs

@@ -1,7 +1,7 @@
 -- A sealed packet: its length, that it is sound, and where its load stands in it. Assumes nothing.
-use Rattle.std.proofs.Common.{◌≡◌, ℕ, ◌+◌, ◌-◌, ◌*◌, ◌/◌, ◌%◌, ◌<◌, ◌≤◌, min, Bool, true, false, cond, eqb, leb, List, [], ◌∷◌, ◌++◌, length, take, drop, replicate, sym, refl, ap, ◌∙◌, ⊎_elim, append_assoc, arith}
+use Rattle.std.proofs.Common.{◌≡◌, ℕ, ◌+◌, ◌-◌, ◌*◌, ◌/◌, ◌%◌, ◌<◌, ◌≤◌, min, true, false, cond, eqb, leb, List, [], ◌∷◌, ◌++◌, length, take, drop, replicate, sym, refl, ap, ◌∙◌, ⊎_elim, append_assoc, arith}
 use Rattle.std.proofs.lemmas.List.{append-nil, length-replicate, length-append, length-take, length-drop, take_at, drop_at, drop-take, drop_all, take-append-drop}
-use Rattle.std.proofs.lemmas.Bool.{cond-true, cond-false, cases_Bool, cases_lt, le-leb, lt-leb, eq-eqb, ne_eqb, eqb-true, eqb-false}
+use Rattle.std.proofs.lemmas.Bool.{cond-true, cond-false, cases_Bool, cases_lt, le-leb, lt-leb, eqb-true, eqb-false}
 use Rattle.symbol.specs.Division.{bits_of}
 use Rattle.packet.specs.Crc.{step_of, crc_of, cleared_of, run_of, bytes_of}
 use Rattle.packet.specs.Sealing.{Sealable, with_crc, checked_of, pad_of, sealed_of, SealedTo, crc_length, sealed_length}

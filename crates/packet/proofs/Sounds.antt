@@ -1,8 +1,8 @@
 -- When a packet is sound, part by part, and that the first six bits do not count. Assumes nothing.
-use Rattle.std.proofs.Common.{◌≡◌, ℕ, ◌%◌, ◌<◌, ◌≤◌, Bool, true, false, ◌&&◌, ◌||◌, eqb, leb, List, [], ◌∷◌, ◌++◌, length, take, drop, sym, refl, ap, ◌∙◌, inl, inr, ⊎_elim, arith}
+use Rattle.std.proofs.Common.{◌≡◌, ℕ, ◌%◌, ◌<◌, ◌≤◌, true, false, ◌&&◌, ◌||◌, eqb, leb, List, ◌++◌, length, take, drop, sym, ap, ◌∙◌, ⊎_elim, arith}
 use mathlib.Core.Bool.{and-true}
 use Rattle.std.proofs.lemmas.List.{length-take, take-append-drop}
-use Rattle.std.proofs.lemmas.Bool.{and_from, and_parts, or_left, or_right, or_cases, cases_lt, and_left, le-leb, lt-leb, leb-true, eq-eqb, eqb-true}
+use Rattle.std.proofs.lemmas.Bool.{and_from, and_parts, or_left, or_right, cases_lt, and_left, le-leb, lt-leb, leb-true, eq-eqb, eqb-true}
 use Rattle.packet.specs.Crc.{crc_of, cleared_of, run_of}
 use Rattle.packet.specs.Soundness.{packet_length, sound_of, Sound}
 use Rattle.packet.proofs.Steps.{crc_append}

@@ -1,5 +1,5 @@
 -- A register that takes bits ends with the remainder of their division. Assumes nothing.
-use Rattle.std.proofs.Common.{◌≡◌, ℕ, zero, suc, ◌+◌, ◌-◌, ◌*◌, ◌/◌, ◌%◌, ◌^◌, ◌<◌, ◌≤◌, Bool, true, false, cond, not, eqb, List, [], ◌∷◌, ◌++◌, length, sym, refl, ap, ◌∙◌, subst, add-zero, mul_assoc, mul_comm, one-mul, pow-suc, zero-add, zero-mul, mul-one, arith}
+use Rattle.std.proofs.Common.{◌≡◌, ℕ, zero, suc, ◌+◌, ◌-◌, ◌*◌, ◌/◌, ◌%◌, ◌^◌, ◌<◌, Bool, true, false, cond, not, eqb, List, [], ◌∷◌, ◌++◌, length, sym, refl, ap, ◌∙◌, subst, add-zero, mul_assoc, mul_comm, one-mul, pow-suc, zero-add, zero-mul, mul-one, arith}
 use native.Mathlib.Nat.{mul-div-mul_right}
 use lib.Bits.{bit_xor, xor_self, xor_zero_r, xor_zero_l, xor_block, xor_lt, xor_comm, xor_assoc}
 use Rattle.std.proofs.lemmas.Nat.{pow_pos, mod_below, div_below, div-add-mod'}

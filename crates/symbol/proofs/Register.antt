@@ -1,8 +1,8 @@
 -- The symbol's check, bit by bit. Assumes nothing.
-use Rattle.std.proofs.Common.{◌≡◌, ℕ, zero, suc, ◌+◌, ◌-◌, ◌*◌, ◌/◌, ◌%◌, ◌^◌, ◌<◌, ◌≤◌, List, [], ◌∷◌, ◌++◌, sym, refl, ap, ◌∙◌, arith}
+use Rattle.std.proofs.Common.{◌≡◌, ℕ, suc, ◌/◌, ◌%◌, ◌^◌, ◌<◌, [], ◌∷◌, ap, arith}
 use Rattle.symbol.specs.Division.{took_bit, took_bits, bits_of}
 use Rattle.symbol.specs.Check.{taken_bits, check_of, CheckDivides}
-use Rattle.symbol.proofs.Divides.{tooks_lt, tooks_append, bits_bits, bits_append, divides}
+use Rattle.symbol.proofs.Divides.{tooks_append, bits_bits, bits_append, divides}
 
 module _ (width terms : ℕ) where
   -- one bit of k taken

@@ -1,7 +1,7 @@
 use Rattle.std.proofs.Common.{◌≡◌, get_or, drop, Some, sym, ap, arith}
 use Rattle.std.proofs.lemmas.List.{drop_all}
 use Rattle.fifo.specs.Held.{queued, oldest}
-use Rattle.fifo.proofs.Turning.{ring_nth, queued_most}
+use Rattle.fifo.proofs.Turning.{ring_nth}
 use Rattle.fifo.proofs.Queue.get.Goals as goal
 
 pub returns-then-k-len : goal.returns-then-k-len

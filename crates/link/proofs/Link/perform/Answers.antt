@@ -9,15 +9,15 @@ returns-in-A g c =
     let la = g.A.Lane.limit in
     let lb = g.B.Lane.limit in
     let i = joint_in g.A.Lane.waiting g.B.Lane.waiting c.args.self.now in
-    let j = joint_in g.A.Lane.waiting g.B.Lane.waiting (record { a = c.perform-at.new.port; b = c.args.self.now.b; from_a = c.perform-at.new.out; from_b = c.perform-at.new.incoming }) in
-    let performs = at_port la lb c.args.at port-a c.in-A.is c.args.call c.args.load.now i c.args.buffer.now c.perform-at.result j c.perform-at.new.buffer (c.perform-at.ensures, refl) in
-    record { performs = performs; delivery = keeps_delivering la lb c.args.at c.args.call c.args.load.now i c.args.buffer.now c.perform-at.result j c.perform-at.new.buffer performs }
+    let j = joint_in g.A.Lane.waiting g.B.Lane.waiting (record { a = c.perform_at.new.port; b = c.args.self.now.b; from_a = c.perform_at.new.out; from_b = c.perform_at.new.incoming }) in
+    let performs = at_port la lb c.args.at port-a c.in-A.is c.args.call c.args.load.now i c.args.buffer.now c.perform_at.result j c.perform_at.new.buffer (c.perform_at.ensures, refl) in
+    record { performs = performs; delivery = keeps_delivering la lb c.args.at c.args.call c.args.load.now i c.args.buffer.now c.perform_at.result j c.perform_at.new.buffer performs }
 
 pub returns-in-B : goal.returns-in-B
 returns-in-B g c =
     let la = g.A.Lane.limit in
     let lb = g.B.Lane.limit in
     let i = joint_in g.A.Lane.waiting g.B.Lane.waiting c.args.self.now in
-    let j = joint_in g.A.Lane.waiting g.B.Lane.waiting (record { a = c.args.self.now.a; b = c.perform-at-in-B.new.port; from_a = c.perform-at-in-B.new.incoming; from_b = c.perform-at-in-B.new.out }) in
-    let performs = at_port la lb c.args.at port-b c.in-B.is c.args.call c.args.load.now i c.args.buffer.now c.perform-at-in-B.result j c.perform-at-in-B.new.buffer (c.perform-at-in-B.ensures, refl) in
-    record { performs = performs; delivery = keeps_delivering la lb c.args.at c.args.call c.args.load.now i c.args.buffer.now c.perform-at-in-B.result j c.perform-at-in-B.new.buffer performs }
+    let j = joint_in g.A.Lane.waiting g.B.Lane.waiting (record { a = c.args.self.now.a; b = c.perform_at-in-B.new.port; from_a = c.perform_at-in-B.new.incoming; from_b = c.perform_at-in-B.new.out }) in
+    let performs = at_port la lb c.args.at port-b c.in-B.is c.args.call c.args.load.now i c.args.buffer.now c.perform_at-in-B.result j c.perform_at-in-B.new.buffer (c.perform_at-in-B.ensures, refl) in
+    record { performs = performs; delivery = keeps_delivering la lb c.args.at c.args.call c.args.load.now i c.args.buffer.now c.perform_at-in-B.result j c.perform_at-in-B.new.buffer performs }

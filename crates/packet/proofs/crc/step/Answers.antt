@@ -1,4 +1,4 @@
-use Rattle.std.proofs.Common.{◌≡◌, ℕ, ◌+◌, ◌*◌, ◌/◌, ◌%◌, ◌<◌, sym, refl, ap, ◌∙◌, zero-add, arith, rules}
+use Rattle.std.proofs.Common.{◌≡◌, ℕ, ◌*◌, ◌/◌, ◌%◌, ◌<◌, sym, ap, ◌∙◌, zero-add, arith, rules}
 use lib.Bits.{bit_xor, xor_lt}
 use Rattle.symbol.specs.Division.{bits_of}
 use Rattle.packet.specs.Crc.{step_of}
@@ -10,11 +10,11 @@ use Rattle.packet.proofs.crc.step.Goals as goal
 within : (v b : ℕ) → v < 65536 → b < 256 → bit_xor (v / 256) b < 256
 within v b h k = xor_lt 8 (v / 256) b (omega arith) k
 
-pub overflow-cast-result : goal.overflow-cast-result
-overflow-cast-result c = let h = within c.args.value c.args.byte (omega arith) (omega arith) in search rules
+pub overflow_cast-result : goal.overflow_cast-result
+overflow_cast-result c = let h = within c.args.value c.args.byte (omega arith) (omega arith) in search rules
 
-pub offset-bounds-place : goal.offset-bounds-place
-offset-bounds-place c = let h = within c.args.value c.args.byte (omega arith) (omega arith) in search rules
+pub offset_bounds-place : goal.offset_bounds-place
+offset_bounds-place c = let h = within c.args.value c.args.byte (omega arith) (omega arith) in search rules
 
 pub bounds-place : goal.bounds-place
 bounds-place c = within c.args.value c.args.byte (omega arith) (omega arith)

@@ -1,4 +1,4 @@
-use Rattle.std.proofs.Common.{◌≡◌, ap, ◌∙◌}
+use Rattle.std.proofs.Common.{ap, ◌∙◌}
 use Rattle.packet.specs.Soundness.{sound_of}
 use Rattle.packet.specs.Crc.{cleared_of}
 use Rattle.packet.proofs.Cleared.{cleared_cleared}

@@ -1,4 +1,4 @@
-use Rattle.std.proofs.Common.{◌/◌, ◌%◌, get_or, arith, ltb-false, ltb-true}
+use Rattle.std.proofs.Common.{get_or, arith, ltb-false, ltb-true}
 use Rattle.std.proofs.lemmas.Nat.{and_mask}
 use Rattle.packet.proofs.Fields.{in_byte1_lem}
 use Rattle.packet.proofs.header.ftype.Goals as goal

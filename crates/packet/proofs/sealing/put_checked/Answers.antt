@@ -1,7 +1,7 @@
-use Rattle.std.proofs.Common.{◌≡◌, ℕ, ◌+◌, ◌-◌, ◌<◌, List, [], ◌∷◌, ◌++◌, length, take, drop, sym, refl, ap, ◌∙◌, append_assoc, arith}
+use Rattle.std.proofs.Common.{◌≡◌, ◌+◌, ◌-◌, ◌<◌, ◌++◌, length, take, drop, sym, ap, ◌∙◌, arith}
 use Rattle.std.proofs.lemmas.List.{length-append, length-take, length-drop, take_rest}
-use Rattle.packet.specs.Crc.{crc_of, cleared_of, run_of, bytes_of}
-use Rattle.packet.specs.Sealing.{with_crc, checked_of}
+use Rattle.packet.specs.Crc.{crc_of, cleared_of, bytes_of}
+use Rattle.packet.specs.Sealing.{with_crc}
 use Rattle.packet.proofs.Cleared.{length_cleared}
 use Rattle.packet.proofs.Sealed.{length_crc, checked_short, long_parts}
 use Rattle.packet.proofs.Written.{appended}
@@ -14,8 +14,8 @@ returns-then-n-le-FIRST c =
     let n = length_cleared load in
     let short = sym (checked_short bs (omega arith)) in
     record {
-      written = c.put-first.ensures.written ∙ ap (λ l. l ++ drop c.put-first.result c.args.buffer.now) short;
-      ends = c.put-first.ensures.ends ∙ ap (λ k. k + 2) (sym n) ∙ sym (length_crc bs) ∙ ap length short;
+      written = c.put_first.ensures.written ∙ ap (λ l. l ++ drop c.put_first.result c.args.buffer.now) short;
+      ends = c.put_first.ensures.ends ∙ ap (λ k. k + 2) (sym n) ∙ sym (length_crc bs) ∙ ap length short;
     }
 
 pub returns : goal.returns
@@ -27,10 +27,10 @@ returns c =
     let v = c.run.result in
     let rest : take (length load - 80) (drop 80 load) ≡ drop 80 load = take_rest load 80 in
     let eighty : length (take 80 load) ≡ 80 = simp length-take (omega arith) in
-    let end : c.put-first-end.result ≡ 82 = c.put-first-end.ensures.ends ∙ ap (λ k. k + 2) eighty in
+    let end : c.put_first-end.result ≡ 82 = c.put_first-end.ensures.ends ∙ ap (λ k. k + 2) eighty in
     let front = with_crc (cleared_of (take 80 load)) in
-    let first = c.put-first-end.new.buffer in
-    let in_front : first ≡ front ++ drop 82 before = c.put-first-end.ensures.written ∙ ap (λ k. front ++ drop k before) end in
+    let first = c.put_first-end.new.buffer in
+    let in_front : first ≡ front ++ drop 82 before = c.put_first-end.ensures.written ∙ ap (λ k. front ++ drop k before) end in
     let part = drop 80 load ++ bytes_of v in
     let long : length part ≡ length load - 80 + 2 = length-append (drop 80 load) (bytes_of v) ∙ ap (λ k. k + 2) (length-drop 80 load) in
     let size : length front ≡ 82 = length_crc (cleared_of (take 80 load)) ∙ ap (λ k. k + 2) (length_cleared (take 80 load) ∙ eighty) in

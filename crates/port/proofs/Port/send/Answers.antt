@@ -13,8 +13,8 @@ returns g c =
     let o = due 32 serial p in
     let l = c.args.lane.now in
     let b = c.args.buffer.now in
-    let put = c.in-ok-put.ensures in
+    let put = c.in_ok-put.ensures in
     let sends =
-    sends_due g.L.Lane.waiting g.L.Lane.puts o g.L.Lane.limit _ (port_of c.write-due-n.new.self) l c.put.new.self b c.write-due-n.new.buffer c.write-due-n.result c.in-Some.what
-    c.write-due-n.ensures c.in-Some.ensures put.means.1 put.means.2 put.kind in
+    sends_due g.L.Lane.waiting g.L.Lane.puts o g.L.Lane.limit _ (port_of c.write_due-n.new.self) l c.put.new.self b c.write_due-n.new.buffer c.write_due-n.result c.in-Some.what
+    c.write_due-n.ensures c.in-Some.ensures put.means.1 put.means.2 put.kind in
     not_refused _ _ _ ShortBuffer (send_due g.L.Lane.limit (g.L.Lane.waiting l) o) (Ok c.in-Some.what) (le-ltb (length b) 276 (omega arith)) sends

@@ -3,4 +3,4 @@ use Rattle.rules.proofs.SerialWire.{reads_names}
 use Rattle.port.proofs.wire.says.Goals as goal
 
 pub returns : goal.returns
-returns c = sym (reads_names.0 c.args.symbol.stype0 c.from-code.result c.from-code.ensures)
+returns c = sym (reads_names.0 c.args.symbol.stype0 c.from_code.result c.from_code.ensures)

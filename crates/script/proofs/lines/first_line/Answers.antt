@@ -5,16 +5,16 @@ use Rattle.script.proofs.Cuts.{lines_none, cut_at, lines_stand}
 use Rattle.script.proofs.lines.first_line.Goals as goal
 use Rattle.script.proofs.lines.first_line.Goals.{then-end-script, else-end-script}
 
-pub returns-then-is-empty : goal.returns-then-is-empty
-returns-then-is-empty c =
+pub returns-then-is_empty : goal.returns-then-is_empty
+returns-then-is_empty c =
     let none : c.args.script.now ≡ [] = nil_from_length _ (omega (arith, true-eqb)) in
     record { cut = (none, ap lines_of none ∙ lines_none); lines = lines_stand _ }
 
 pub returns : goal.returns
 returns c =
     let s = c.args.script.now in
-    let n = c.line-end-end.result in
-    let told = c.line-end-end.ensures in
+    let n = c.line_end-end.result in
+    let told = c.line_end-end.ensures in
     let some : 0 < length s = omega (arith, false-eqb) in
     let rest = c.if-end-script.rest.now in
     let back : rest ≡ drop (n + 1) s = elim c.if-end-script.branch [

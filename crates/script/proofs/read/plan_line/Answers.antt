@@ -4,11 +4,11 @@ use Rattle.script.specs.declared.line.Line.TheVariants.{Plan}
 use Rattle.script.proofs.Texts.{says, says_nothing}
 use Rattle.script.proofs.read.plan_line.Goals as goal
 
-pub returns-in-Some-plan-of : goal.returns-in-Some-plan-of
-returns-in-Some-plan-of c =
+pub returns-in-Some-plan_of : goal.returns-in-Some-plan_of
+returns-in-Some-plan_of c =
     let port = c.args.port in
-    let (entries, letters, fills) = c.in-Some-plan-of.ensures in
-    says (Plan port c.in-Some-plan-of.plan) PlanCall port c.args.tail.now refl refl (entries, c.in-Some.ensures ∙ ap (λ l. 9 ∷ l) letters, fills)
+    let (entries, letters, fills) = c.in-Some-plan_of.ensures in
+    says (Plan port c.in-Some-plan_of.plan) PlanCall port c.args.tail.now refl refl (entries, c.in-Some.ensures ∙ ap (λ l. 9 ∷ l) letters, fills)
 
 pub returns-in-None : goal.returns-in-None
 returns-in-None c = (

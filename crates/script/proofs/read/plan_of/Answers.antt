@@ -2,9 +2,9 @@ use Rattle.std.proofs.Common.{sym, ◌∙◌, ⊎_elim, arith, true-eqb, false-e
 use Rattle.script.proofs.Spelt.{plan_more, plan_all, no_plan, no_entry}
 use Rattle.script.proofs.read.plan_of.Goals as goal
 
-pub returns-then-is-empty : goal.returns-then-is-empty
-returns-then-is-empty c =
-    no_plan c.args.letters.now (⊎_elim (λ none some room. omega (arith, true-eqb _ 0 (sym none ∙ c.is-empty.ensures))) (λ many some room. omega arith) c.then-is-empty.either)
+pub returns-then-is_empty : goal.returns-then-is_empty
+returns-then-is_empty c =
+    no_plan c.args.letters.now (⊎_elim (λ none some room. omega (arith, true-eqb _ 0 (sym none ∙ c.is_empty.ensures))) (λ many some room. omega arith) c.then-is_empty.either)
 
 pub returns-in-None : goal.returns-in-None
 returns-in-None c = no_entry c.args.letters.now c.loop-i.i (omega arith) c.in-None.ensures

@@ -1,6 +1,4 @@
-use Rattle.std.proofs.Common.{◌≡◌, ℕ, ◌+◌, ◌*◌, ◌%◌, ap, ◌∙◌, arith}
-use lib.Bits.{bit_or}
-use Rattle.symbol.specs.Check.{check_of}
+use Rattle.std.proofs.Common.{◌+◌, ◌*◌, arith}
 use Rattle.symbol.proofs.Bytes.{joined}
 use Rattle.symbol.proofs.Symbol.check.Goals as goal
 
@@ -14,4 +12,4 @@ returns c =
     let b = joined 32 one 8 5 s.parameter1 (omega arith) (omega arith) (omega arith) in
     let d = joined 32 two 13 3 s.stype1 (omega arith) (omega arith) (omega arith) in
     let e = joined 32 three 16 3 s.cmd (omega arith) (omega arith) (omega arith) in
-    record { within = c.check-of.ensures.within; value = cc }
+    record { within = c.check_of.ensures.within; value = cc }

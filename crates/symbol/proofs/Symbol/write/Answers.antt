@@ -1,4 +1,4 @@
-use Rattle.std.proofs.Common.{◌≡◌, ℕ, ◌+◌, ◌*◌, ◌%◌, ◌<◌, List, [], ◌∷◌, Ok, sym, refl, ap, ◌∙◌, subst, arith}
+use Rattle.std.proofs.Common.{◌≡◌, ℕ, ◌+◌, ◌*◌, ◌%◌, ◌<◌, [], ◌∷◌, ap, ◌∙◌, subst, arith}
 use lib.Bits.{bit_or}
 use Rattle.symbol.specs.Check.{check_of}
 use Rattle.symbol.specs.Layout.{Fits, unchecked_of, written_of, read_of}
@@ -17,4 +17,4 @@ returns c =
     let small : check_of (unchecked_of s) < 32 = subst (λ (x : ℕ). x < 32) k c.check-check.ensures.within in
     let whole : bit_or (s.stype0 * 32 % 256) s.parameter0 ∷ bit_or (s.parameter1 * 8 % 256) s.stype1 ∷ bit_or (s.cmd * 32 % 256) c.check-check.result ∷ [] ≡ written_of s =
     λ j. a j ∷ b j ∷ (d ∙ ap (λ x. s.cmd * 32 + x) k) j ∷ [] in
-    record { value = (f, whole); reads-back = ap read_of whole ∙ reads_written s f small; divides = check_divides (unchecked_of s) }
+    record { value = (f, whole); reads_back = ap read_of whole ∙ reads_written s f small; divides = check_divides (unchecked_of s) }

@@ -5,7 +5,7 @@ use Rattle.fifo.specs.Held.{queued}
 use Rattle.port.specs.Inner.{is_named}
 use Rattle.port.proofs.Naming.{found, named_from}
 use Rattle.port.proofs.receiving.Receiving.is_named.Goals as goal
-use Rattle.port.proofs.receiving.Receiving.is_named.Goals.{in-Some+else-record-slot, in-default}
+use Rattle.port.proofs.receiving.Receiving.is_named.Goals.{in-Some+else-record-slot, in_default}
 
 pub returns-then-record-slot : goal.returns-then-record-slot
 returns-then-record-slot c =
@@ -27,7 +27,7 @@ loop-k-preserved c =
           let here = named_from slot k rs r (sym c.get.ensures ∙ w.in-Some.is) in
           let not-here : eqb r.slot slot ≡ false = ne_eqb r.slot slot w.if-record-slot.false in
           sym (here ∙ ap (λ (b : Bool). b || is_named slot (drop (k + 1) rs)) not-here) ∙ c.loop-k.invariant
-      | in-default w ↦ absurd (found k rs (omega arith) (sym c.get.ensures ∙ w.in-default.is))
+      | in-default w ↦ absurd (found k rs (omega arith) (sym c.get.ensures ∙ w.in_default.is))
     ]
 
 pub returns : goal.returns

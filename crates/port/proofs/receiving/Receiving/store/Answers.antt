@@ -7,11 +7,11 @@ use Rattle.port.specs.Waiting.{recorded, waiting_of, reply_in}
 use Rattle.port.proofs.Naming.{waits_more}
 use Rattle.port.proofs.receiving.Receiving.store.Goals as goal
 
-pub returns-in-default : goal.returns-in-default
-returns-in-default c =
+pub returns-in_default : goal.returns-in_default
+returns-in_default c =
     let s = c.args.self.now in
     let long = length-map (queued s.records) (recorded s.slots) in
-    let full : 8 ≤ length (queued s.records) = c.in-default.ensures in
+    let full : 8 ≤ length (queued s.records) = c.in_default.ensures in
     record { answer = sym (le-ltb (length (waiting_of s)) (min (places_of s.records) 8) (omega arith)); receiver = refl; places = refl }
 
 pub returns-in-Ok : goal.returns-in-Ok

@@ -9,13 +9,13 @@ use Rattle.port.proofs.Ring.{length_held, held_at}
 use Rattle.port.proofs.Fronts.{stamped_front, stamps_within}
 use Rattle.port.proofs.sending.Sending.send.Goals as goal
 
-pub copy-out-n-requires : goal.copy-out-n-requires
-copy-out-n-requires c =
+pub copy_out-n-requires : goal.copy_out-n-requires
+copy_out-n-requires c =
     let long = length_held c.args.self.now in
     (c.place-i.ensures.within (omega arith), omega arith)
 
-pub count-sent-requires : goal.count-sent-requires
-count-sent-requires c =
+pub count_sent-requires : goal.count_sent-requires
+count_sent-requires c =
     let long = length_held c.args.self.now in
     (c.requires.0, omega arith)
 
@@ -26,17 +26,17 @@ returns c =
     let i = c.place-i.result in
     let long = length_held s in
     let k = s.window.sent in
-    let id = c.next-ack-id.result in
+    let id = c.next_ack_id.result in
     let p = get_or (packets_in s.slots) i [] in
     let same : get_or (held_of s) k [] ≡ p = held_at s i k (omega arith) c.place-i.ensures.at in
-    let frame : next_frame (sender_of s) ≡ stamped_of id p = ap (λ (n : ℕ). stamped_of n (get_or (held_of s) k [])) (sym c.next-ack-id.ensures.value) ∙ ap (stamped_of id) same in
-    let out = c.copy-out-n.ensures in
+    let frame : next_frame (sender_of s) ≡ stamped_of id p = ap (λ (n : ℕ). stamped_of n (get_or (held_of s) k [])) (sym c.next_ack_id.ensures.value) ∙ ap (stamped_of id) same in
+    let out = c.copy_out-n.ensures in
     let some : 1 ≤ length p = omega (arith, out.len, out.bounds.0) in
-    let stamped : c.stamp.new.packet ≡ stamped_of id c.copy-out-n.new.buffer = stamps_within id c.copy-out-n.new.buffer c.stamp.new.packet c.stamp.result c.stamp.ensures.value c.next-ack-id.ensures.within in
-    let wrote = stamped_front id p c.copy-out-n.new.buffer before some out.bytes in
+    let stamped : c.stamp.new.packet ≡ stamped_of id c.copy_out-n.new.buffer = stamps_within id c.copy_out-n.new.buffer c.stamp.new.packet c.stamp.result c.stamp.ensures.value c.next_ack_id.ensures.within in
+    let wrote = stamped_front id p c.copy_out-n.new.buffer before some out.bytes in
     record {
       len = out.len ∙ sym (length_stamped id p) ∙ ap length (sym frame);
       bounds = out.bounds;
       bytes = stamped ∙ wrote ∙ ap (λ (f : List ℕ). f ++ drop (length f) before) (sym frame);
-      sender = c.count-sent.ensures;
+      sender = c.count_sent.ensures;
     }

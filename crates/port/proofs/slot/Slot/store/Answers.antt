@@ -9,5 +9,5 @@ returns c =
     let p = c.args.packet.now in
     let rest = drop (length p) c.args.self.now.bytes in
     let some : 0 < length p = omega arith in
-    let wrote : c.clear.new.packet ≡ cleared_of p ++ rest = c.clear.ensures.value ∙ ap cleared_of c.copy-to.ensures ∙ cleared_append p rest some in
+    let wrote : c.clear.new.packet ≡ cleared_of p ++ rest = c.clear.ensures.value ∙ ap cleared_of c.copy_to.ensures ∙ cleared_append p rest some in
     record { packet = ap (take (length p)) wrote ∙ take_at (cleared_of p) rest (length p) (length_cleared p); len = refl }

@@ -2,7 +2,7 @@ use Rattle.std.proofs.Common.{arith, rules}
 use Rattle.lane.specs.Meaning.{Gains}
 use Rattle.lane.proofs.Spoilt.{spoilt}
 use Rattle.lane.proofs.noisy.methods.NoisyLane.put.Goals as goal
-use Rattle.lane.proofs.noisy.methods.NoisyLane.put.Goals.{in-Keep+in-ok-put, in-Lose, in-Spoil+in-ok-put-2}
+use Rattle.lane.proofs.noisy.methods.NoisyLane.put.Goals.{in-Keep+in_ok-put, in-Lose, in-Spoil+in_ok-put-2}
 
 pub returns : goal.returns
 returns g c =

@@ -1,7 +1,7 @@
 -- What carrying a frame from one lane to another does to the frames that wait in both.
-use Rattle.std.specs.Prelude.{◌≡◌, ℕ, ◌<◌, ◌≤◌, ◌⊎◌, List, [], ◌∷◌, ◌++◌, length, drop, Ok, Err, Result}
+use Rattle.std.specs.Prelude.{◌≡◌, ℕ, ◌<◌, ◌≤◌, ◌⊎◌, List, ◌∷◌, ◌++◌, length, drop, Ok, Err, Result}
 use Rattle.refusal.specs.declared.Refusal.{Refusal}
-use Rattle.refusal.specs.declared.Refusal.TheVariants.{LaneFull, ShortBuffer, Nothing}
+use Rattle.refusal.specs.declared.Refusal.TheVariants.{LaneFull}
 use Rattle.lane.specs.Meaning.{Frames, Gains, TakeRefused}
 
 -- Why it is refused: first as a take from v is, then since w has as many frames as its lane's limit allows.

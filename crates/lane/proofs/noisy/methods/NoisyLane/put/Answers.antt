@@ -2,7 +2,7 @@ use Rattle.std.proofs.Common.{arith, rules}
 use Rattle.lane.specs.Meaning.{Gains}
 use Rattle.lane.proofs.Spoilt.{spoilt}
 use Rattle.lane.proofs.noisy.methods.NoisyLane.put.Goals as goal
-use Rattle.lane.proofs.noisy.methods.NoisyLane.put.Goals.{in-Keep+in_ok-put, in-Lose, in-Spoil+in_ok-put-2}
+use Rattle.lane.proofs.noisy.methods.NoisyLane.put.Goals.{in-Keep+in_ok-put-in-Keep, in-Lose, in-Spoil+in_ok-put-in-Spoil}
 
 pub returns : goal.returns
 returns g c =
@@ -10,8 +10,8 @@ returns g c =
     let f = c.args.frame.now in
     let gains : Gains w f (g.L.Lane.waiting c.match-self-place.self.below) =
     elim c.match-self-place.branch [
-      | in-Keep+in-ok-put k ↦ search rules
+      | in-Keep+in_ok-put-in-Keep k ↦ search rules
       | in-Lose k ↦ search rules
-      | in-Spoil+in-ok-put-2 k ↦ spoilt w (g.L.Lane.waiting c.match-self-place.self.below) f (search rules)
+      | in-Spoil+in_ok-put-in-Spoil k ↦ spoilt w (g.L.Lane.waiting c.match-self-place.self.below) f (search rules)
     ] in
     record { means = ((omega arith, omega arith), omega arith, gains); kind = search rules }

@@ -1,9 +1,8 @@
 -- The sending half of a port, in the rules' terms.
-use Rattle.std.specs.Prelude.{ℕ, List, [], get_or, take}
+use Rattle.std.specs.Prelude.{List, take}
 use Rattle.fifo.specs.Turned.{turned}
-use Rattle.rules.specs.Wire.{Packet, Frame}
-use Rattle.rules.specs.Port.{Sender, fresh, after}
-use Rattle.rules.specs.Serial.{serial}
+use Rattle.rules.specs.Wire.{Packet}
+use Rattle.rules.specs.Port.{Sender}
 use Rattle.port.specs.declared.sending.Sending.{Sending}
 use Rattle.port.specs.Slots.{packets_in}
 

@@ -1,11 +1,9 @@
 -- The receiving half of a port, in the rules' terms.
-use Rattle.std.specs.Prelude.{◌≡◌, ℕ, ◌<◌, ◌≤◌, Bool, true, false, ◌||◌, eqb, List, [], ◌∷◌, ◌++◌, map, length, drop, Some, None, Ok, Err, Option, Result}
-use Rattle.refusal.specs.declared.Refusal.{Refusal}
-use Rattle.refusal.specs.declared.Refusal.TheVariants.{Nothing}
+use Rattle.std.specs.Prelude.{List, map}
 use Rattle.fifo.specs.Held.{queued, places_of}
 use Rattle.rules.specs.declared.state.Reply.{Reply}
 use Rattle.rules.specs.Wire.{Packet}
-use Rattle.rules.specs.Port.{Receiver, Places, fresh}
+use Rattle.rules.specs.Port.{Receiver, Places}
 use Rattle.port.specs.declared.pending.PendingReply.{PendingReply}
 use Rattle.port.specs.declared.record.WaitingSlot.{WaitingSlot}
 use Rattle.port.specs.declared.slots.ReceiveSlots.{ReceiveSlots}

@@ -1,7 +1,7 @@
 use Rattle.std.proofs.Common.{length, Ok, sym, arith}
 use Rattle.std.proofs.lemmas.Bool.{le-ltb}
 use Rattle.refusal.specs.declared.Refusal.TheVariants.{ShortBuffer, RepliesFull}
-use Rattle.rules.specs.Calls.{refused_if, receive_first}
+use Rattle.rules.specs.Calls.{receive_first}
 use Rattle.rules.specs.Serial.{serial}
 use Rattle.port.specs.Model.{port_of}
 use Rattle.port.proofs.Outcomes.{not_refused, receives_first}

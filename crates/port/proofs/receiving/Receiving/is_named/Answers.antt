@@ -1,4 +1,4 @@
-use Rattle.std.proofs.Common.{◌≡◌, ◌+◌, Bool, true, false, ◌||◌, eqb, length, drop, sym, ap, ◌∙◌, arith}
+use Rattle.std.proofs.Common.{◌≡◌, ◌+◌, Bool, true, false, ◌||◌, eqb, drop, sym, ap, ◌∙◌, arith}
 use Rattle.std.proofs.lemmas.Bool.{eq-eqb, ne_eqb}
 use Rattle.std.proofs.lemmas.List.{drop_all}
 use Rattle.fifo.specs.Held.{queued}
@@ -27,7 +27,7 @@ loop-k-preserved c =
           let here = named_from slot k rs r (sym c.get.ensures ∙ w.in-Some.is) in
           let not-here : eqb r.slot slot ≡ false = ne_eqb r.slot slot w.if-record-slot.false in
           sym (here ∙ ap (λ (b : Bool). b || is_named slot (drop (k + 1) rs)) not-here) ∙ c.loop-k.invariant
-      | in-default w ↦ absurd (found k rs (omega arith) (sym c.get.ensures ∙ w.in_default.is))
+      | in_default w ↦ absurd (found k rs (omega arith) (sym c.get.ensures ∙ w.in_default.is))
     ]
 
 pub returns : goal.returns

@@ -1,4 +1,3 @@
-use Rattle.std.proofs.Common.{◌≡◌}
 use Rattle.std.proofs.lemmas.List.{length-map}
 use Rattle.fifo.specs.Held.{queued}
 use Rattle.port.specs.Waiting.{reply_in}

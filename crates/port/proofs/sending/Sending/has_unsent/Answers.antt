@@ -1,4 +1,3 @@
-use Rattle.std.proofs.Common.{◌≡◌}
 use Rattle.port.proofs.Ring.{length_held}
 use Rattle.port.proofs.sending.Sending.has_unsent.Goals as goal
 

@@ -19,4 +19,4 @@ returns c =
     let long = length_held s in
     let w = c.hold-self.ensures in
     let held = held_more s c.place-i.result c.hold-self.result.held (packets_in c.seal.new.self) _ (omega arith) c.place-i.ensures.at w.held_is c.seal.ensures.sealed in
-    λ j. record { held = held j; first = w.first_is j; sent = w.sent-is j; high = w.high-is j; output = s.output }
+    λ j. record { held = held j; first = w.first_is j; sent = w.sent_is j; high = w.high_is j; output = s.output }

@@ -1,7 +1,6 @@
-use Rattle.std.proofs.Common.{◌≡◌, ℕ, ◌<◌, ◌≤◌, List, [], ◌++◌, length, get_or, drop, sym, ap, ◌∙◌, subst, arith}
+use Rattle.std.proofs.Common.{◌≡◌, ℕ, ◌≤◌, List, [], ◌++◌, length, get_or, drop, sym, ap, ◌∙◌, arith}
 use Rattle.packet.specs.Header.{stamped_of}
 use Rattle.packet.proofs.Fields.{length_stamped}
-use Rattle.rules.specs.Port.{after}
 use Rattle.port.specs.Slots.{packets_in}
 use Rattle.port.specs.Held.{held_of, sender_of}
 use Rattle.port.specs.Inner.{next_frame}

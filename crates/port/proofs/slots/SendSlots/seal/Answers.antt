@@ -1,4 +1,4 @@
-use Rattle.std.proofs.Common.{map, set, ap, ◌∙◌, rules}
+use Rattle.std.proofs.Common.{set, ap, ◌∙◌, rules}
 use Rattle.std.proofs.lemmas.List.{map-set}
 use Rattle.port.specs.Slots.{packet_in, packets_in}
 use Rattle.port.proofs.slots.SendSlots.seal.Goals as goal

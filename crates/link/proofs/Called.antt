@@ -1,12 +1,12 @@
 -- A call at a port is a step of the rules, with a fate that its lane may choose. Assumes nothing.
-use Rattle.std.proofs.Common.{◌≡◌, ℕ, Bool, true, false, cond, leb, ◌⊎◌, List, [], ◌∷◌, ◌++◌, length, take, drop, Some, None, Ok, Err, Option, Result, sym, refl, ap, ◌∙◌, subst, inl, inr, arith}
+use Rattle.std.proofs.Common.{◌≡◌, ℕ, Bool, true, false, cond, leb, List, [], ◌∷◌, ◌++◌, length, take, drop, Some, None, Ok, Err, Result, sym, refl, ap, ◌∙◌, inl, inr, arith}
 use Rattle.std.proofs.lemmas.List.{take_at}
 use Rattle.refusal.specs.declared.Refusal.{Refusal}
 use Rattle.packet.specs.Sealing.{sealed_of}
 use Rattle.lane.specs.Meaning.{Frames, Gains}
 use Rattle.rules.specs.Wire.{Packet, Frame}
 use Rattle.rules.specs.Port.{Port, most_held}
-use Rattle.rules.specs.Calls.{Submitted as SubmittedBy, Departure, Arrival, Collected as CollectedBy, submit, submit_sealed, refused_if, send, receive, collect, time_out}
+use Rattle.rules.specs.Calls.{Submitted as SubmittedBy, Departure, Arrival, Collected as CollectedBy, submit, submit_sealed, refused_if, send, receive, collect}
 use Rattle.rules.specs.Link.{Side, Fate, Possible, put, called, after_submit, after_send, after_receive, after_collect}
 use Rattle.rules.specs.Link.Fate.{keep, spoil, lose}
 use Rattle.rules.specs.Serial.{serial, is_load}
@@ -14,7 +14,7 @@ use Rattle.rules.proofs.SerialWire.{spoils_by_unsound}
 use Rattle.link.specs.declared.call.Call.{Call}
 use Rattle.link.specs.declared.call.Call.TheVariants.{Submit, Send, Receive, Collect, TimeOut}
 use Rattle.link.specs.declared.call.Outcome.{Outcome}
-use Rattle.link.specs.declared.call.Outcome.TheVariants.{Submitted, Sent, Received, Collected, TimedOut}
+use Rattle.link.specs.declared.call.Outcome.TheVariants.{Submitted, Sent, Received, Collected}
 use Rattle.link.specs.Performing.{Scene, Same, Does, as_rules}
 use Rattle.port.specs.Promises.{Agrees, copied}
 use Rattle.link.specs.Recorded.{Log, logged, side_of}

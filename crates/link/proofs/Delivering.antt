@@ -1,21 +1,19 @@
 -- From what a call does to the delivery promise. Assumes nothing.
-use Rattle.std.proofs.Common.{◌≡◌, ℕ, List, [], length, Result, sym, refl, ap, ◌∙◌, subst, arith}
+use Rattle.std.proofs.Common.{◌≡◌, ℕ, List, length, Result, sym, ap, subst, arith}
 use Rattle.refusal.specs.declared.Refusal.{Refusal}
 use Rattle.lane.specs.Meaning.{Frames}
 use Rattle.rules.specs.declared.state.PortId.{PortId}
 use Rattle.rules.specs.declared.state.PortId.TheVariants.{A as port-a, B as port-b}
-use Rattle.rules.specs.Port.{Port, Places, fresh}
-use Rattle.rules.specs.Link.{Side, Link, Fate, Possible, Run, Reached, step, with_lane, fresh_link}
+use Rattle.rules.specs.Link.{Side, Link, Fate, Possible, Reached, step, fresh_link}
 use Rattle.rules.specs.Link.Run.{none, more}
 use Rattle.rules.specs.Link.Reached.{reached}
-use Rattle.rules.specs.Delivery.{Delivers}
 use Rattle.rules.specs.Serial.{serial}
 use Rattle.rules.proofs.Delivers.{delivery}
 use Rattle.rules.proofs.SerialWire.{serial_lawful}
 use Rattle.link.specs.declared.call.Call.{Call}
 use Rattle.link.specs.declared.call.Outcome.{Outcome}
-use Rattle.link.specs.Performing.{Scene, as_rules}
-use Rattle.link.specs.Recorded.{Log, logged, side_of}
+use Rattle.link.specs.Performing.{as_rules}
+use Rattle.link.specs.Recorded.{side_of}
 use Rattle.link.specs.Joint.{Joint, Performs, Record, empty_record, recorded, link_of, Delivering, KeepsDelivering, StartsDelivering}
 use Rattle.link.proofs.Called.{called_as}
 

@@ -1,5 +1,5 @@
 -- What a call at one port of a link answers and leaves, by what the rules say of it.
-use Rattle.std.specs.Prelude.{◌≡◌, ℕ, List, [], length, Ok, Err, Result}
+use Rattle.std.specs.Prelude.{◌≡◌, ℕ, List, length, Ok, Result}
 use Rattle.refusal.specs.declared.Refusal.{Refusal}
 use Rattle.lane.specs.Meaning.{Frames, Gains}
 use Rattle.rules.specs.Port.{Port}

@@ -60,7 +60,7 @@ impl<'r, 's, 'w, 'x, A: Lane, B: Lane> Link<'r, 's, 'w, 'x, A, B> {
 
     // How many packets a port holds.
     pub fn held(&self, at: PortId) -> usize
-        ensures { result ≡ length (port_at at (joint_in A-as-Lane.waiting B-as-Lane.waiting self.now)).sender.held }
+        ensures { result ≡ length (port_at at (joint_in A.Lane.waiting B.Lane.waiting self.now)).sender.held }
     {
         match at {
             PortId::A => self.a.held(),

@@ -1,5 +1,5 @@
 -- How digits spell a load, and letters a plan. Assumes nothing.
-use Rattle.std.proofs.Common.{◌≡◌, ℕ, ◌+◌, ◌-◌, ◌*◌, ◌<◌, ◌≤◌, List, [], ◌∷◌, ◌++◌, map, length, get_or, take, drop, set, replicate, Some, None, sym, refl, ap, ◌∙◌, append_assoc, arith, length-set}
+use Rattle.std.proofs.Common.{◌≡◌, ℕ, ◌+◌, ◌-◌, ◌*◌, ◌<◌, ◌≤◌, List, [], ◌∷◌, ◌++◌, map, length, get_or, take, drop, set, replicate, Some, None, sym, ap, ◌∙◌, append_assoc, arith, length-set}
 use Rattle.std.specs.Char.{digit_value}
 use Rattle.std.proofs.lemmas.List.{drop_more, drop_all, append-nil, length-map, length-take-le, get_or-map, map_push, take_more_set, take_more, drop-set-lt, drop-drop, drop-replicate, take-append-drop, take_all}
 use Rattle.lane.specs.declared.noisy.Fate.{Fate}

@@ -1,5 +1,5 @@
 -- A text says one thing at most. Assumes nothing.
-use Rattle.std.proofs.Common.{◌≡◌, ℕ, ◌-◌, ◌<◌, ◌≤◌, cond, eqb, List, [], ◌∷◌, ◌++◌, map, length, get_or, drop, replicate, Ok, Err, Result, sym, refl, ap, ◌∙◌, subst, arith}
+use Rattle.std.proofs.Common.{◌≡◌, ℕ, ◌-◌, cond, eqb, List, [], ◌∷◌, ◌++◌, map, length, get_or, drop, replicate, Ok, Result, sym, refl, ap, ◌∙◌, subst, arith}
 use Rattle.std.proofs.lemmas.List.{length-map}
 use Rattle.rules.specs.declared.state.PortId.{PortId}
 use Rattle.rules.specs.declared.state.PortId.TheVariants.{A, B}
@@ -11,7 +11,7 @@ use Rattle.script.specs.declared.line.Line.{Line}
 use Rattle.script.specs.declared.read.ReadError.{ReadError}
 use Rattle.script.specs.Letters.{call_letter, port_letter, fate_letter}
 use Rattle.script.specs.Said.{Said, submit, send, receive, collect, time_out, plan, said_by, call_of, port_of}
-use Rattle.script.specs.Reading.{bytes_of, Pairs, Fills, head_of, Follows, Written, NoLine, Reads}
+use Rattle.script.specs.Reading.{bytes_of, Pairs, Fills, head_of, Follows, NoLine, Reads}
 
 -- from letters back to what they name
 call_at : ℕ → Call

@@ -119,7 +119,7 @@ fn plans_keep_after_their_letters(rt: HostRuntime) -> Result<(), Fail> {
     let plan = plan_of(rt.alloc(), "p\ta\tlsk")?;
     assert_eq!(rt;
         &plan[0..4],
-        &[Fate::Lose, Fate::Spoil, Fate::Keep, Fate::Keep]
+        [Fate::Lose, Fate::Spoil, Fate::Keep, Fate::Keep].as_slice()
     );
     assert_eq!(rt; plan[63], Fate::Keep);
     let whole = "p\ta\tllllllllllllllllllllllllllllllllllllllllllllllllllllllllllllllls";

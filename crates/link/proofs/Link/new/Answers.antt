@@ -1,5 +1,4 @@
 use Rattle.std.proofs.Common.{refl}
-use Rattle.link.specs.Model.{joint_in}
 use Rattle.link.proofs.Delivering.{starts_delivering}
 use Rattle.link.proofs.Link.new.Goals as goal
 

@@ -1,4 +1,4 @@
-use Rattle.std.proofs.Common.{◌≡◌, ◌∷◌, ◌++◌, string_bytes, decimal, ◌∙◌}
+use Rattle.std.proofs.Common.{◌≡◌, string_bytes, decimal, ◌∙◌}
 use lib.Utf8.{encode}
 use Rattle.std.proofs.lemmas.Result.{IfOk-weaker}
 use Rattle.script.specs.Letters.{call_letter, port_letter}

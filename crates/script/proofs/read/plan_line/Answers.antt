@@ -1,4 +1,4 @@
-use Rattle.std.proofs.Common.{ℕ, List, ◌∷◌, drop, sym, refl, ap, ◌∙◌}
+use Rattle.std.proofs.Common.{◌∷◌, drop, sym, refl, ap, ◌∙◌}
 use Rattle.script.specs.declared.call.Call.TheVariants.{Plan as PlanCall}
 use Rattle.script.specs.declared.line.Line.TheVariants.{Plan}
 use Rattle.script.proofs.Texts.{says, says_nothing}

@@ -15,7 +15,7 @@ returns-in-Ok g c =
     let text = c.args.text.now in
     let t = c.perform-answer.new.link in
     IfOk-weaker c.row.result
-    (λ p. string_bytes p ≡ row_of number c.call.result c.port_at.result c.perform-answer.result c.held.result)
+    (λ p. string_bytes p ≡ row_of number c.call.result c.port-at.result c.perform-answer.result c.held.result)
     (λ p. Prints wa wb la lb number text c.args.link.now (string_bytes p) t)
-    (λ p row. row_printed wa wb la lb c.args.link.now _ c.perform-answer.result t c.perform-answer.new.buffer number text c.read.result c.in-Ok.line c.call.result c.port_at.result c.held.result (string_bytes p) c.in-Ok.is c.read.ensures c.call.ensures c.port_at.ensures c.held.ensures refl c.perform-answer.ensures row)
+    (λ p row. row_printed wa wb la lb c.args.link.now _ c.perform-answer.result t c.perform-answer.new.buffer number text c.read.result c.in-Ok.line c.call.result c.port-at.result c.held.result (string_bytes p) c.in-Ok.is c.read.ensures c.call.ensures c.port-at.ensures c.held.ensures refl c.perform-answer.ensures row)
     c.row.ensures

@@ -1,3 +1,4 @@
+pub mod Filled
 pub mod Planned
 pub mod Spoilt
 pub mod Fronts

@@ -1,9 +1,9 @@
--- The frames in a steady lane's slots.
-use Rattle.std.specs.Prelude.{◌≡◌, ℕ, ◌+◌, ◌-◌, ◌<◌, List, [], ◌∷◌, ◌++◌, map, length, take, slice_index_or, slice_set}
-use Rattle.std.proofs.Common.{sym, ap, ◌∙◌, subst, arith}
-use Rattle.std.proofs.lemmas.List.{length-map, length-take-le, map_push}
-use Rattle.fifo.specs.Turned.{At, turned}
-use Rattle.fifo.proofs.Turning.{length_ring, ring_put, ring_take}
+-- Why a steady lane keeps the laws of lanes: its frames are as many as it counts, and each has a frame's length.
+use Rattle.std.specs.Prelude.{◌≡◌, List, [], ◌∷◌, map, length, take}
+use Rattle.std.proofs.Common.{◌∙◌, arith}
+use Rattle.std.proofs.lemmas.List.{length-map, length-take-le}
+use Rattle.fifo.specs.Turned.{turned}
+use Rattle.fifo.proofs.Turning.{length_ring}
 use Rattle.lane.specs.declared.steady.Slot.{Slot}
 use Rattle.lane.specs.declared.steady.Steady.{Steady}
 use Rattle.lane.specs.Meaning.{SizedFrame, SizedFrames}
@@ -18,20 +18,5 @@ pub all_sized : (slots : List Slot) → SizedFrames (map held slots)
 all_sized [] = tt
 all_sized (s ∷ ss) = (held_sized s, all_sized ss)
 
-module _ (s : Steady) where
-  pub frames_length : length (frames_of s) ≡ s.len
-  frames_length = length-map (take s.len (turned s.head s.slots)) held ∙ length_ring s.head s.len s.slots (omega arith)
-
-  -- a place among 16 is a place among the slots
-  among : (k i : ℕ) → At s.head k 16 i → At s.head k (length s.slots) i
-  among k i at = subst (λ (n : ℕ). At s.head k n i) (sym s.filled.1) at
-
-  -- the frames, once the next slot is written
-  pub frames_put : (i : ℕ) (x : Slot) → At s.head s.len 16 i → s.len < 16 → map held (take (s.len + 1) (turned s.head (slice_set s.slots i x))) ≡ frames_of s ++ held x ∷ []
-  frames_put i x at lt =
-      ap (map held) (ring_put s.head s.len i s.slots x (among s.len i at) (omega arith))
-      ∙ map_push held (take s.len (turned s.head s.slots)) x
-
-  -- the oldest frame, and the rest
-  pub frames_take : (i j : ℕ) (d : Slot) → At s.head 0 16 i → At s.head 1 16 j → 0 < s.len → frames_of s ≡ held (slice_index_or s.slots i d) ∷ map held (take (s.len - 1) (turned j s.slots))
-  frames_take i j d at0 at1 pos = ap (map held) (ring_take s.head s.len i j s.slots d (among 0 i at0) (among 1 j at1) pos (omega arith))
+pub frames_length : (s : Steady) → length (frames_of s) ≡ s.len
+frames_length s = length-map (take s.len (turned s.head s.slots)) held ∙ length_ring s.head s.len s.slots (omega arith)

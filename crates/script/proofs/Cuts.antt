@@ -1,6 +1,6 @@
 -- How a script falls into lines. Assumes nothing.
 use Rattle.std.proofs.Common.{◌≡◌, ℕ, zero, suc, ◌+◌, ◌<◌, ◌≤◌, cond, List, [], ◌∷◌, ◌++◌, length, get_or, take, drop, sym, refl, ap, ◌∙◌, inl, inr, add-one, arith, length-append, length-drop, eq-eqb, ne_eqb}
-use Rattle.std.specs.List.{flat_map, AllByRecursion as All}
+use Rattle.std.specs.List.{flat_map, AllByRecursion}
 use Rattle.std.proofs.lemmas.Bool.{cases_eq, cases_lt}
 use Rattle.std.proofs.lemmas.List.{append_assoc, take-append-drop, drop_more, take_all, drop_all}
 use Rattle.script.specs.Lines.{before, lines_of, ended, Whole, AreLines, LinesStand, Splits}
@@ -64,7 +64,7 @@ line_back : (l rest : List ℕ) → Whole l → lines_of (ended l ++ rest) ≡ l
 line_back [] rest whole = feed 10 rest refl
 line_back (c ∷ l) rest (isnt, whole) = other c (ended l ++ rest) isnt ∙ ap (before c) (line_back l rest whole)
 
-lines_back : (ls : List (List ℕ)) → All Whole ls → lines_of (flat_map ended ls) ≡ ls
+lines_back : (ls : List (List ℕ)) → AllByRecursion Whole ls → lines_of (flat_map ended ls) ≡ ls
 lines_back [] each = lines_none
 lines_back (l ∷ ls) (whole, each) = line_back l (flat_map ended ls) whole ∙ ap (λ ms. l ∷ ms) (lines_back ls each)
 

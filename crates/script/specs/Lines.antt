@@ -1,6 +1,6 @@
 -- The lines of a script. Each ends with a line feed, byte 10, which the last may lack.
 use Rattle.std.specs.Prelude.{◌≡◌, ℕ, ◌<◌, cond, ◌⊎◌, List, [], ◌∷◌, ◌++◌, length, Some, None, Option, ◌==◌, ◌≢◌}
-use Rattle.std.specs.List.{flat_map, AllByRecursion as All}
+use Rattle.std.specs.List.{flat_map, AllByRecursion}
 use Rattle.script.specs.declared.lines.FirstLine.{FirstLine}
 
 -- One more byte in front of the first line.
@@ -19,13 +19,13 @@ ended line = line ++ (10 ∷ [])
 
 -- A line holds no line feed.
 abbrev pub Whole : List ℕ → Type 0
-Whole line = All (λ c. c ≢ 10) line
+Whole line = AllByRecursion (λ c. c ≢ 10) line
 
 -- The lines of a script are those that hold no line feed and, each with its line feed, make up the script;
 -- where the script ends with another byte, they make up the script and one line feed more.
 abbrev pub AreLines : List ℕ → List (List ℕ) → Type 0
 AreLines script lines =
-    All Whole lines × ((flat_map ended lines ≡ script) ⊎ ((front : List ℕ) × (c : ℕ) × (script ≡ front ++ (c ∷ [])) × (c ≢ 10) × (flat_map ended lines ≡ script ++ (10 ∷ []))))
+    AllByRecursion Whole lines × ((flat_map ended lines ≡ script) ⊎ ((front : List ℕ) × (c : ℕ) × (script ≡ front ++ (c ∷ [])) × (c ≢ 10) × (flat_map ended lines ≡ script ++ (10 ∷ []))))
 
 -- The definition gives the lines of a script, and nothing else is.
 abbrev pub LinesStand : List ℕ → Type 0

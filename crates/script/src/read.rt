@@ -1,7 +1,7 @@
 // Reading one line of a script.
 ghost use Rattle.std.specs.Prelude.{◌≡◌, ◌<◌, T, [], ◌++◌, IfOk};
 ghost use Rattle.std.specs.Char.{digit_value};
-ghost use Rattle.std.specs.List.{AllByRecursion as All};
+ghost use Rattle.std.specs.List.{AllByRecursion};
 ghost use Rattle.script.specs.declared.call.Call.TheVariants.{Submit, Plan};
 ghost use Rattle.script.specs.Parts.{Begins, Parts, Plans};
 ghost use Rattle.script.specs.Reading.{bytes_of, Pairs, head_of, Follows, Reads};
@@ -39,8 +39,8 @@ fn is_digit(digit: u8) -> bool
 
 // Whether each byte is a hexadecimal digit.
 fn are_digits(digits: &[u8]) -> bool
-    ensures yes { T result → All (λ d. digit_value d < 16) digits.now }
-    ensures no { All (λ d. digit_value d < 16) digits.now → T result }
+    ensures yes { T result → AllByRecursion (λ d. digit_value d < 16) digits.now }
+    ensures no { AllByRecursion (λ d. digit_value d < 16) digits.now → T result }
 {
     for digit in digits {
         if !is_digit(*digit) {

@@ -37,7 +37,7 @@ impl Lane for Steady {
 
     ghost takes = { λ _ _. Unit {0} };
 
-    ghost bounds = { first_of (Prim.search rules, Prim.grind (arith, Self.row.coded.inj)) };
+    ghost bounds = { Prim.search rules };
 
     ghost within = { λ s. omega (arith, frames_length s) };
 

@@ -1,6 +1,6 @@
 use Rattle.std.proofs.Common.{ℕ, ◌<◌, subst, arith}
 use Rattle.std.specs.Char.{digit_value}
-use Rattle.std.specs.List.{AllByRecursion as All}
+use Rattle.std.specs.List.{AllByRecursion}
 use Rattle.std.proofs.lemmas.List.{take_all}
 use Rattle.std.proofs.ByRecursion.{All-get_or, All-more}
 use Rattle.script.proofs.read.are_digits.Goals as goal
@@ -18,4 +18,4 @@ pub loop-digit-preserved : goal.loop-digit-preserved
 loop-digit-preserved c = All-more Digit c.args.digits.now c.loop-digit.digit-index 0 (omega arith) c.loop-digit.invariant (c.if-not-is_digit.ensures.yes tt)
 
 pub returns : goal.returns
-returns c = record { yes = λ _. subst (All Digit) (take_all c.loop-digit.digit-index c.args.digits.now (omega arith)) c.loop-digit.invariant; no = λ _. tt }
+returns c = record { yes = λ _. subst (AllByRecursion Digit) (take_all c.loop-digit.digit-index c.args.digits.now (omega arith)) c.loop-digit.invariant; no = λ _. tt }

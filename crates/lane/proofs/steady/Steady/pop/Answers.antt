@@ -1,4 +1,4 @@
-use Rattle.lane.specs.Filled.{frames_take}
+use Rattle.lane.proofs.Filled.{frames_take}
 use Rattle.lane.proofs.steady.Steady.pop.Goals as goal
 
 pub returns : goal.returns

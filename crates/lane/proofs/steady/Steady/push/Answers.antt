@@ -1,4 +1,4 @@
-use Rattle.lane.specs.Filled.{frames_put}
+use Rattle.lane.proofs.Filled.{frames_put}
 use Rattle.lane.proofs.steady.Steady.push.Goals as goal
 
 pub returns : goal.returns

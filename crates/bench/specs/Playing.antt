@@ -19,10 +19,10 @@ use Rattle.script.specs.Said.Said.{submit, send, receive, collect, time_out, pla
 use Rattle.bench.specs.Answers.{answer_of}
 
 -- A link of two noisy lanes, each over a lane known by the frames that wait in it.
-module _ {A B : Type 0} (waitingA : A → Frames) (waitingB : B → Frames) (la lb : ℕ) where
+module _ {A B : Type 0} (waiting_a : A → Frames) (waiting_b : B → Frames) (la lb : ℕ) where
   -- The link in the rules' terms.
   abbrev pub joint : Link (Noisy A) (Noisy B) → Joint
-  joint l = joint_in (λ (x : Noisy A). waitingA x.below) (λ (x : Noisy B). waitingB x.below) l
+  joint l = joint_in (λ (x : Noisy A). waiting_a x.below) (λ (x : Noisy B). waiting_b x.below) l
 
   -- How many packets a port holds.
   abbrev pub held_at : PortId → Link (Noisy A) (Noisy B) → ℕ

@@ -3,7 +3,7 @@ use Rattle.std.proofs.Common.{◌≡◌, ℕ, List, length, Result, sym, ap, sub
 use Rattle.refusal.specs.declared.Refusal.{Refusal}
 use Rattle.lane.specs.Meaning.{Frames}
 use Rattle.rules.specs.declared.state.PortId.{PortId}
-use Rattle.rules.specs.declared.state.PortId.TheVariants.{A as port-a, B as port-b}
+use Rattle.rules.specs.declared.state.PortId.TheVariants.{A as port_a, B as port_b}
 use Rattle.rules.specs.Link.{Side, Link, Fate, Possible, Reached, step, fresh_link}
 use Rattle.rules.specs.Link.Run.{none, more}
 use Rattle.rules.specs.Link.Reached.{reached}
@@ -29,12 +29,12 @@ module _ (la lb : ℕ) where
   -- the call is a step of the rules
   stepped : (at : PortId) (call : Call) (load : List ℕ) (i : Joint) (b : List ℕ) (r : Result Outcome Refusal) (j : Joint) (b' : List ℕ) (k : Record) → Performs la lb at call load i b r j b'
       → (fate : Fate) × Possible serial fate × (step 32 serial la lb at (as_rules call load (length b)) fate (link_of i k) ≡ link_of j (recorded at load r b' k))
-  stepped port-a call load i b r j b' k h =
+  stepped port_a call load i b r j b' k h =
       let z = called_as la call load _ r _ k.a h.0 in
       let side = ap (λ (y : Side × Frames). y.0) z.2 in
       let rest = ap (λ (y : Side × Frames). y.1) z.2 in
       (z.0, z.1, λ n. record { a = side n; b = side_of (sym h.1 n) (rest n) k.b })
-  stepped port-b call load i b r j b' k h =
+  stepped port_b call load i b r j b' k h =
       let z = called_as lb call load _ r _ k.b h.0 in
       let side = ap (λ (y : Side × Frames). y.0) z.2 in
       let rest = ap (λ (y : Side × Frames). y.1) z.2 in

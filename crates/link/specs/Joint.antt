@@ -3,7 +3,7 @@ use Rattle.std.specs.Prelude.{◌≡◌, ℕ, List, [], Result}
 use Rattle.refusal.specs.declared.Refusal.{Refusal}
 use Rattle.lane.specs.Meaning.{Frames}
 use Rattle.rules.specs.declared.state.PortId.{PortId}
-use Rattle.rules.specs.declared.state.PortId.TheVariants.{A as port-a, B as port-b}
+use Rattle.rules.specs.declared.state.PortId.TheVariants.{A as port_a, B as port_b}
 use Rattle.rules.specs.Port.{Port, Places, fresh}
 use Rattle.rules.specs.Link.{Link, Reached}
 use Rattle.rules.specs.Delivery.{Delivers}
@@ -22,23 +22,23 @@ pub record Joint : Type 0 where
 
 -- What a call at a port reads and leaves of the link.
 abbrev pub scene_at : PortId → Joint → List ℕ → Scene
-scene_at port-a i buffer = record { port = i.a; out = i.from_a; incoming = i.from_b; buffer = buffer }
-scene_at port-b i buffer = record { port = i.b; out = i.from_b; incoming = i.from_a; buffer = buffer }
+scene_at port_a i buffer = record { port = i.a; out = i.from_a; incoming = i.from_b; buffer = buffer }
+scene_at port_b i buffer = record { port = i.b; out = i.from_b; incoming = i.from_a; buffer = buffer }
 
 -- A port of the link.
 abbrev pub port_at : PortId → Joint → Port
-port_at port-a i = i.a
-port_at port-b i = i.b
+port_at port_a i = i.a
+port_at port_b i = i.b
 
 -- The other port.
 abbrev pub other : PortId → PortId
-other port-a = port-b
-other port-b = port-a
+other port_a = port_b
+other port_b = port_a
 
 -- The limit of the lane that a port writes.
 abbrev pub limit_at : ℕ → ℕ → PortId → ℕ
-limit_at la lb port-a = la
-limit_at la lb port-b = lb
+limit_at la lb port_a = la
+limit_at la lb port_b = lb
 
 -- A call at one port does there what the rules say, and leaves the other port as it was.
 abbrev pub Performs : ℕ → ℕ → PortId → Call → List ℕ → Joint → List ℕ → Result Outcome Refusal → Joint → List ℕ → Type 0
@@ -54,8 +54,8 @@ empty_record = record { a = record { accepted = []; collected = [] }; b = record
 
 -- The record after a call at one port.
 abbrev pub recorded : PortId → List ℕ → Result Outcome Refusal → List ℕ → Record → Record
-recorded port-a load r buffer k = record { a = logged load r buffer k.a; b = k.b }
-recorded port-b load r buffer k = record { a = k.a; b = logged load r buffer k.b }
+recorded port_a load r buffer k = record { a = logged load r buffer k.a; b = k.b }
+recorded port_b load r buffer k = record { a = k.a; b = logged load r buffer k.b }
 
 -- The link with its record, as the rules have it.
 abbrev pub link_of : Joint → Record → Link
@@ -72,4 +72,4 @@ KeepsDelivering la lb at load i r j buffer' = (k : Record) → Reached 32 serial
 
 -- A link of two fresh ports and two empty lanes is one that a run of no calls brings about.
 abbrev pub StartsDelivering : ℕ → ℕ → Joint → Type 0
-StartsDelivering la lb i = (placesA placesB : Places) → i.a ≡ fresh placesA → i.b ≡ fresh placesB → i.from_a ≡ [] → i.from_b ≡ [] → Delivering la lb i empty_record
+StartsDelivering la lb i = (places_a places_b : Places) → i.a ≡ fresh places_a → i.b ≡ fresh places_b → i.from_a ≡ [] → i.from_b ≡ [] → Delivering la lb i empty_record

@@ -38,7 +38,7 @@ reached_on : (n : ℕ) (w : Wire) (la lb : ℕ) (i j : Link) → Reached n w la 
 reached_on n w la lb _ j (reached pa pb i r) more = reached pa pb j (more (fresh_link pa pb) r)
 
 module _ (n : ℕ) (w : Wire) (lw : Lawful n w) (pos : 0 < n) (la lb : ℕ) (i : Link) (h : Both n w i.a i.b) where
-  -- all that the rounds after the time_outs come to
+  -- all that the rounds after the time-outs come to
   recovered : Roomy i.a.port.places la → Roomy i.b.port.places lb → Quiet n w la i.a → Quiet n w lb i.b
       → Recovered i (to_link (rounds_of n w la lb (enough i) (timed n w i.a, timed n w i.b)))
   recovered ra rb qa qb =

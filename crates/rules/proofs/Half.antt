@@ -11,7 +11,7 @@ use Rattle.rules.specs.Calls.{Departure, refused_if, due, send_due, receive_firs
 use Rattle.rules.specs.Link.{Side, called, with_port, with_lane, after_send, after_receive, after_collect}
 use Rattle.rules.specs.Link.Fate.{keep}
 use Rattle.rules.specs.Link.Call.{sends, receives}
-use Rattle.rules.proofs.Direction.{collect as collect-direction}
+use Rattle.rules.proofs.Direction.{collect as collect_direction}
 use Rattle.rules.proofs.Keeps.{Both, called_keeps}
 
 -- the side with these packets waiting and collected
@@ -92,4 +92,4 @@ module _ (n : ℕ) (w : Wire) where
       let h₂ = called_keeps n w lw pos t x.0 limit (receives 276) keep tt (h₁.1, h₁.0) in
       let t₁ = z.0 in
       let c = append-nil (t₁.collected ++ t₁.port.receiver.waiting) in
-      (record { way = collect-direction h₂.1.way (t₁.collected ++ t₁.port.receiver.waiting) [] c; fits = h₂.1.fits; alive = h₂.1.alive; sized = h₂.1.sized }, h₂.0)
+      (record { way = collect_direction h₂.1.way (t₁.collected ++ t₁.port.receiver.waiting) [] c; fits = h₂.1.fits; alive = h₂.1.alive; sized = h₂.1.sized }, h₂.0)

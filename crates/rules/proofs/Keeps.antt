@@ -20,7 +20,7 @@ use Rattle.rules.specs.Link.{Side, Fate, Possible, Call, Link, Run, Reached, put
 use Rattle.rules.specs.Link.Fate.{keep, spoil, lose}
 use Rattle.rules.specs.Link.Call.{submits, sends, receives, collects, times_out}
 use Rattle.rules.specs.declared.state.PortId.{PortId}
-use Rattle.rules.specs.declared.state.PortId.TheVariants.{A as port-a, B as port-b}
+use Rattle.rules.specs.declared.state.PortId.TheVariants.{A as port_a, B as port_b}
 use Rattle.rules.specs.Link.Run.{none, more}
 use Rattle.rules.specs.Link.Reached.{reached}
 use Rattle.rules.proofs.Replies.{Silent, Replies, replies_tail}
@@ -245,8 +245,8 @@ module _ (n : ℕ) (w : Wire) (lw : Lawful n w) (pos : 0 < n) where
       }
 
   pub step_keeps : (la lb : ℕ) (x : PortId) (call : Call) (fate : Fate) (i : Link) → Possible w fate → Both n w i.a i.b → let j = step n w la lb x call fate i in Both n w j.a j.b
-  step_keeps la lb port-a call fate i ok h = called_keeps n w lw pos i.a i.b la call fate ok h
-  step_keeps la lb port-b call fate i ok h = let z = called_keeps n w lw pos i.b i.a lb call fate ok (h.1, h.0) in (z.1, z.0)
+  step_keeps la lb port_a call fate i ok h = called_keeps n w lw pos i.a i.b la call fate ok h
+  step_keeps la lb port_b call fate i ok h = let z = called_keeps n w lw pos i.b i.a lb call fate ok (h.1, h.0) in (z.1, z.0)
 
   pub run_keeps : (la lb : ℕ) (i j : Link) → Run n w la lb i j → Both n w i.a i.b → Both n w j.a j.b
   run_keeps la lb i _ none h = h

@@ -6,7 +6,7 @@ use Rattle.rules.specs.Link.{Side, Link, Run, step, after_collect}
 use Rattle.rules.specs.Link.Fate.{keep}
 use Rattle.rules.specs.Link.Call.{sends, receives, collects, times_out}
 use Rattle.rules.specs.declared.state.PortId.{PortId}
-use Rattle.rules.specs.declared.state.PortId.TheVariants.{A as port-a, B as port-b}
+use Rattle.rules.specs.declared.state.PortId.TheVariants.{A as port_a, B as port_b}
 use Rattle.rules.specs.Link.Run.{more}
 use Rattle.rules.specs.Rounds.{Drains, Exchange, Round, Rounds, TimeOuts, Recovery, waiting_at}
 use Rattle.rules.specs.Rounds.Drains.{drained, collecting}
@@ -17,20 +17,20 @@ use Rattle.rules.proofs.Progress.{round_of}
 use Rattle.rules.proofs.Finish.{rounds_of, timed}
 
 abbrev emptied_at : PortId → Link → Link
-emptied_at port-a i = record { a = emptied i.a; b = i.b }
-emptied_at port-b i = record { a = i.a; b = emptied i.b }
+emptied_at port_a i = record { a = emptied i.a; b = i.b }
+emptied_at port_b i = record { a = i.a; b = emptied i.b }
 
 emptied_at_none : (x : PortId) (i : Link) → waiting_at x i ≡ [] → emptied_at x i ≡ i
-emptied_at_none port-a i e = ap (λ (s : Side). record { a = s; b = i.b }) (emptied_none i.a e)
-emptied_at_none port-b i e = ap (λ (s : Side). record { a = i.a; b = s }) (emptied_none i.b e)
+emptied_at_none port_a i e = ap (λ (s : Side). record { a = s; b = i.b }) (emptied_none i.a e)
+emptied_at_none port_b i e = ap (λ (s : Side). record { a = i.a; b = s }) (emptied_none i.b e)
 
 abbrev pub to_link : Side × Side → Link
 to_link z = record { a = z.0; b = z.1 }
 
 module _ (n : ℕ) (w : Wire) (la lb : ℕ) where
   emptied_at_collect : (x : PortId) (i : Link) → emptied_at x (step n w la lb x (collects 276) keep i) ≡ emptied_at x i
-  emptied_at_collect port-a i = ap (λ (s : Side). record { a = s; b = i.b }) (emptied_collect i.a)
-  emptied_at_collect port-b i = ap (λ (s : Side). record { a = i.a; b = s }) (emptied_collect i.b)
+  emptied_at_collect port_a i = ap (λ (s : Side). record { a = s; b = i.b }) (emptied_collect i.a)
+  emptied_at_collect port_b i = ap (λ (s : Side). record { a = i.a; b = s }) (emptied_collect i.b)
 
   -- where it ends
   drains_ends : (x : PortId) (i j : Link) → Drains n w la lb x i j → j ≡ emptied_at x i
@@ -39,8 +39,8 @@ module _ (n : ℕ) (w : Wire) (la lb : ℕ) where
 
   pub round_ends : (i k : Link) → Round n w la lb i k → k ≡ to_link (round_of n w la lb (i.a, i.b))
   round_ends i k r =
-      let e = drains_ends port-b _ _ r.there in
-      let f = drains_ends port-a _ _ r.back in
+      let e = drains_ends port_b _ _ r.there in
+      let f = drains_ends port_a _ _ r.back in
       f ∙ ap (λ (j : Link). let y = half n w lb j.b j.a in record { a = y.1; b = y.0 }) e
 
   pub rounds_end : (m : ℕ) (i k : Link) → Rounds n w la lb m i k → k ≡ to_link (rounds_of n w la lb m (i.a, i.b))
@@ -54,8 +54,8 @@ module _ (n : ℕ) (w : Wire) (la lb : ℕ) where
 
   -- there is one
   collected_waits : (x : PortId) (i : Link) (q : Packet) (qs : List Packet) → waiting_at x i ≡ q ∷ qs → waiting_at x (step n w la lb x (collects 276) keep i) ≡ qs
-  collected_waits port-a i q qs e = ap (λ (l : List Packet). (after_collect (collect_first l i.a.port) i.a).port.receiver.waiting) e
-  collected_waits port-b i q qs e = ap (λ (l : List Packet). (after_collect (collect_first l i.b.port) i.b).port.receiver.waiting) e
+  collected_waits port_a i q qs e = ap (λ (l : List Packet). (after_collect (collect_first l i.a.port) i.a).port.receiver.waiting) e
+  collected_waits port_b i q qs e = ap (λ (l : List Packet). (after_collect (collect_first l i.b.port) i.b).port.receiver.waiting) e
 
   drains_goes : (x : PortId) (qs : List Packet) (i : Link) → waiting_at x i ≡ qs → Drains n w la lb x i (emptied_at x i)
   drains_goes x [] i e = subst (Drains n w la lb x i) (sym (emptied_at_none x i e)) (drained i e)
@@ -64,7 +64,7 @@ module _ (n : ℕ) (w : Wire) (la lb : ℕ) where
       collecting i (emptied_at x i) (subst (Drains n w la lb x j) (emptied_at_collect x i) (drains_goes x qs j (collected_waits x i q qs e)))
 
   round_goes : (i : Link) → Round n w la lb i (to_link (round_of n w la lb (i.a, i.b)))
-  round_goes i = record { middle = to_link (half n w la i.a i.b); there = drains_goes port-b _ _ refl; back = drains_goes port-a _ _ refl }
+  round_goes i = record { middle = to_link (half n w la i.a i.b); there = drains_goes port_b _ _ refl; back = drains_goes port_a _ _ refl }
 
   rounds_go : (m : ℕ) (i : Link) → Rounds n w la lb m i (to_link (rounds_of n w la lb m (i.a, i.b)))
   unfolding rounds_of
@@ -73,7 +73,7 @@ module _ (n : ℕ) (w : Wire) (la lb : ℕ) where
 
   pub recovery_goes : (m : ℕ) (i : Link) → (j : Link) × Recovery n w la lb m i j
   recovery_goes m i =
-      let j = step n w la lb port-b times_out keep (step n w la lb port-a times_out keep i) in
+      let j = step n w la lb port_b times_out keep (step n w la lb port_a times_out keep i) in
       (to_link (rounds_of n w la lb m (j.a, j.b)), record { timed_out = j; time_outs = a_first; rounds = rounds_go m j })
 
   -- it is a run
@@ -87,11 +87,11 @@ module _ (n : ℕ) (w : Wire) (la lb : ℕ) where
   rounds_run : (h : Link) (m : ℕ) (i k : Link) → Rounds n w la lb m i k → Run n w la lb h i → Run n w la lb h k
   rounds_run h _ _ _ (none i) r = r
   rounds_run h _ _ _ (one_more m i j k e es) r =
-      rounds_run h m j k es (exchange_run h port-b port-a e.middle j e.back (exchange_run h port-a port-b i e.middle e.there r))
+      rounds_run h m j k es (exchange_run h port_b port_a e.middle j e.back (exchange_run h port_a port_b i e.middle e.there r))
 
   time_outs_run : (h i j : Link) → TimeOuts n w la lb i j → Run n w la lb h i → Run n w la lb h j
-  time_outs_run h i _ a_first r = more _ port-b times_out keep tt (more i port-a times_out keep tt r)
-  time_outs_run h i _ b_first r = more _ port-a times_out keep tt (more i port-b times_out keep tt r)
+  time_outs_run h i _ a_first r = more _ port_b times_out keep tt (more i port_a times_out keep tt r)
+  time_outs_run h i _ b_first r = more _ port_a times_out keep tt (more i port_b times_out keep tt r)
 
   pub recovery_run : (h : Link) (m : ℕ) (i k : Link) → Recovery n w la lb m i k → Run n w la lb h i → Run n w la lb h k
   recovery_run h m i k c r = rounds_run h m c.timed_out k c.rounds (time_outs_run h i c.timed_out c.time_outs r)

@@ -20,7 +20,7 @@ use Rattle.packet.proofs.Sealed.{sealed_sound}
 use Rattle.packet.proofs.Sounds.{length_parts, sound_length}
 use Rattle.rules.specs.declared.state.Reply.{Reply}
 use Rattle.rules.specs.declared.state.Reply.TheVariants.{Accepted, Retry, NotAccepted, Response}
-use Rattle.rules.specs.Wire.{Packet, FrameLength, Lawful, ReadsReply, ReadsAsking, ack_id_of as replyAckId}
+use Rattle.rules.specs.Wire.{Packet, FrameLength, Lawful, ReadsReply, ReadsAsking, ack_id_of as reply_ack_id}
 use Rattle.rules.specs.Wire.Seen.{symbol, packet}
 use Rattle.rules.specs.Serial.{symbol_of, receiver_controlled, asking_symbol, is_load, named, says_of, commanded, asks_of, ack_id_in, seen_as, serial, SealsLoads, ReadsNames, SpoilsByUnsound}
 
@@ -125,7 +125,7 @@ reads_symbol s k q a kl ql =
     ∙ ap (λ (x : Option Stype0). symbol x k q (asks_of (stype1_of a) (cmd_of a))) (says_back s)
     ∙ ap (symbol (Some s) k q) (asks_back a)
 
-reads_reply : (y : Reply) → replyAckId y < 32 → ReadsReply y (serial.read (serial.reply y))
+reads_reply : (y : Reply) → reply_ack_id y < 32 → ReadsReply y (serial.read (serial.reply y))
 reads_reply (Accepted k) l = record { spare = receiver_controlled; second = Some AsksNop; asks_nothing = tt; is = reads_symbol SaysAccepted k receiver_controlled AsksNop l (omega arith) }
 reads_reply (Retry k) l = record { spare = receiver_controlled; second = Some AsksNop; asks_nothing = tt; is = reads_symbol SaysRetry k receiver_controlled AsksNop l (omega arith) }
 reads_reply (NotAccepted k c) l = record { spare = 0; second = Some AsksNop; asks_nothing = tt; is = reads_symbol SaysNotAccepted k (cause_of c) AsksNop l (cause_fits c) }

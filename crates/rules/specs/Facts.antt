@@ -3,7 +3,7 @@ use Rattle.std.specs.Prelude.{◌≡◌, ℕ, ◌≢◌, List, [], ◌∷◌, �
 use Rattle.symbol.specs.declared.codes.Stype0.TheVariants.{Response as SaysResponse}
 use Rattle.symbol.specs.declared.codes.PortStatus.TheVariants.{Failed as StatusFailed}
 use Rattle.symbol.specs.Codes.{status_of}
-use Rattle.packet.specs.Facts.{facts as sealedLengths}
+use Rattle.packet.specs.Facts.{facts as sealed_lengths}
 use Rattle.rules.specs.declared.state.Output.TheVariants.{Running, AwaitingResponse, Failed}
 use Rattle.rules.specs.Port.{Sender, after}
 use Rattle.rules.specs.Hearing.{said}
@@ -40,4 +40,4 @@ windows = WrapsAround ∷ FreesAcross ∷ FailsBeyond ∷ FreesAfterRewind ∷ [
 
 -- All of them.
 abbrev pub facts : List (Type 0)
-facts = sealedLengths ++ windows
+facts = sealed_lengths ++ windows

@@ -3,7 +3,7 @@ use Rattle.std.specs.Prelude.{◌≡◌, ℕ, List, [], ◌∷◌, ◌++◌, Ok,
 use Rattle.refusal.specs.declared.Refusal.{Refusal}
 use Rattle.symbol.specs.declared.codes.Cause.{Cause}
 use Rattle.rules.specs.declared.state.PortId.{PortId}
-use Rattle.rules.specs.declared.state.PortId.TheVariants.{A as port-a, B as port-b}
+use Rattle.rules.specs.declared.state.PortId.TheVariants.{A as port_a, B as port_b}
 use Rattle.rules.specs.Wire.{Packet, Frame, FrameLength, Wire}
 use Rattle.rules.specs.Wire.Seen.{unsound}
 use Rattle.rules.specs.Port.{Places, Port, fresh}
@@ -91,14 +91,14 @@ pub record Link : Type 0 where
 
 -- Two fresh ports and two empty lanes.
 abbrev pub fresh_link : Places → Places → Link
-fresh_link placesA placesB = record { a = fresh_side placesA; b = fresh_side placesB }
+fresh_link places_a places_b = record { a = fresh_side places_a; b = fresh_side places_b }
 
 -- The lanes that a and b write have the limits la and lb.
 module _ (n : ℕ) (w : Wire) (la lb : ℕ) where
   -- One step: a call at one of the two ports.
   abbrev pub step : PortId → Call → Fate → Link → Link
-  step port-a call fate i = let r = called n w la call fate i.a i.b.lane in record { a = r.0; b = with_lane r.1 i.b }
-  step port-b call fate i = let r = called n w lb call fate i.b i.a.lane in record { a = with_lane r.1 i.a; b = r.0 }
+  step port_a call fate i = let r = called n w la call fate i.a i.b.lane in record { a = r.0; b = with_lane r.1 i.b }
+  step port_b call fate i = let r = called n w lb call fate i.b i.a.lane in record { a = with_lane r.1 i.a; b = r.0 }
 
   -- A run: steps one after another, with any calls and any possible fates.
   pub data Run (i : Link) : Link → Type 0 where
@@ -107,4 +107,4 @@ module _ (n : ℕ) (w : Wire) (la lb : ℕ) where
 
   -- The links that the runs from a fresh link come to.
   pub data Reached : Link → Type 0 where
-    reached : (placesA placesB : Places) (i : Link) → Run (fresh_link placesA placesB) i → Reached i
+    reached : (places_a places_b : Places) (i : Link) → Run (fresh_link places_a places_b) i → Reached i

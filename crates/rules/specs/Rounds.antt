@@ -7,13 +7,13 @@ use Rattle.rules.specs.Calls.{send}
 use Rattle.rules.specs.Link.{Side, Link, step}
 use Rattle.rules.specs.Link.Fate.{keep}
 use Rattle.rules.specs.declared.state.PortId.{PortId}
-use Rattle.rules.specs.declared.state.PortId.TheVariants.{A as port-a, B as port-b}
+use Rattle.rules.specs.declared.state.PortId.TheVariants.{A as port_a, B as port_b}
 use Rattle.rules.specs.Link.Call.{sends, receives, collects, times_out}
 
 -- The packets that wait at a port.
 abbrev pub waiting_at : PortId → Link → List Packet
-waiting_at port-a i = i.a.port.receiver.waiting
-waiting_at port-b i = i.b.port.receiver.waiting
+waiting_at port_a i = i.a.port.receiver.waiting
+waiting_at port_b i = i.b.port.receiver.waiting
 
 -- Each queue of a port has a place, and the lane that it writes can carry a frame.
 pub record Roomy (places : Places) (limit : ℕ) : Type 0 where
@@ -39,8 +39,8 @@ module _ (n : ℕ) (w : Wire) (la lb : ℕ) where
   -- A round: from a to b, then from b to a.
   pub record Round (i k : Link) : Type 0 where
     pub middle : Link
-    pub there : Exchange port-a port-b i middle
-    pub back : Exchange port-b port-a middle k
+    pub there : Exchange port_a port_b i middle
+    pub back : Exchange port_b port_a middle k
 
   -- So many rounds.
   pub data Rounds : ℕ → Link → Link → Type 0 where
@@ -49,8 +49,8 @@ module _ (n : ℕ) (w : Wire) (la lb : ℕ) where
 
   -- One time-out at each port, in either order.
   pub data TimeOuts (i : Link) : Link → Type 0 where
-    a_first : TimeOuts i (step n w la lb port-b times_out keep (step n w la lb port-a times_out keep i))
-    b_first : TimeOuts i (step n w la lb port-a times_out keep (step n w la lb port-b times_out keep i))
+    a_first : TimeOuts i (step n w la lb port_b times_out keep (step n w la lb port_a times_out keep i))
+    b_first : TimeOuts i (step n w la lb port_a times_out keep (step n w la lb port_b times_out keep i))
 
   -- One time-out at each port, and then m rounds.
   pub record Recovery (m : ℕ) (i k : Link) : Type 0 where

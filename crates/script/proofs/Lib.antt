@@ -1,4 +1,5 @@
 pub mod Cuts
+pub mod Each
 pub mod Spelt
 pub mod Texts
 pub mod Shown

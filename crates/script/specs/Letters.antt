@@ -29,9 +29,9 @@ fate_letter Spoil = 115
 
 -- A letter names the thing whose letter it is, and nothing where no thing has that letter.
 abbrev pub Names : {A : Type 0} → (A → ℕ) → ℕ → Option A → Type 0
-Names {A} letterOf letter (Some thing) = letterOf thing ≡ letter
-Names {A} letterOf letter None = (thing : A) → letterOf thing ≢ letter
+Names {A} letter_of letter (Some thing) = letter_of thing ≡ letter
+Names {A} letter_of letter None = (thing : A) → letter_of thing ≢ letter
 
 -- Nothing else has this letter.
 abbrev pub Only : {A : Type 0} → (A → ℕ) → A → ℕ → Type 0
-Only {A} letterOf thing letter = (other : A) → letterOf other ≡ letter → other ≡ thing
+Only {A} letter_of thing letter = (other : A) → letter_of other ≡ letter → other ≡ thing

@@ -1,5 +1,5 @@
 use Rattle.std.proofs.Common.{List, [], ◌∷◌, ◌++◌, refl}
-use Rattle.packet.specs.Facts.{Hold, facts as sealedLengths}
+use Rattle.packet.specs.Facts.{Hold, facts as sealed_lengths}
 use Rattle.rules.specs.Facts.{windows}
 use Rattle.rules.proofs.Windows.{windows_hold}
 use Rattle.rules.proofs.facts_listed.Goals as goal
@@ -9,4 +9,4 @@ hold_both [] gs h k = k
 hold_both (f ∷ fs) gs h k = (h.0, hold_both fs gs h.1 k)
 
 pub returns : goal.returns
-returns c = record { value = (refl, refl); hold = hold_both sealedLengths windows c.hold.ensures windows_hold }
+returns c = record { value = (refl, refl); hold = hold_both sealed_lengths windows c.hold.ensures windows_hold }

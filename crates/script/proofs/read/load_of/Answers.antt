@@ -1,6 +1,6 @@
 use Rattle.std.proofs.Common.{◌≡◌, ℕ, ◌+◌, ◌*◌, ◌<◌, get_or, arith}
 use Rattle.std.specs.Char.{digit_value}
-use Rattle.std.proofs.ByRecursion.{All-get_or}
+use Rattle.script.proofs.Each.{each_at}
 use Rattle.script.proofs.Spelt.{pair_more, pairs_all}
 use Rattle.script.proofs.read.load_of.Goals as goal
 
@@ -8,10 +8,10 @@ abbrev Digit : ℕ → Type 0
 Digit d = digit_value d < 16
 
 pub value_of-requires : goal.value_of-requires
-value_of-requires c = All-get_or Digit c.args.digits.now (2 * c.loop-i.i) 0 (omega arith) c.requires.1
+value_of-requires c = each_at Digit c.args.digits.now (2 * c.loop-i.i) 0 (omega arith) c.requires.1
 
 pub value_of-requires-in-loop-i : goal.value_of-requires-in-loop-i
-value_of-requires-in-loop-i c = All-get_or Digit c.args.digits.now (2 * c.loop-i.i + 1) 0 (omega arith) c.requires.1
+value_of-requires-in-loop-i c = each_at Digit c.args.digits.now (2 * c.loop-i.i + 1) 0 (omega arith) c.requires.1
 
 pub loop-i-preserved : goal.loop-i-preserved
 loop-i-preserved c =

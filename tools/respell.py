@@ -5,7 +5,7 @@ usage: python3 tools/respell.py [FOLDER]     at the top of a checkout, once, on 
 
 port.py, which comes with Rattle, respells only those names that std has too. Each name below is one of ours: a definition, a field or
 a constructor of specs/, or a lemma of proofs/. Only whole names in .rt and .antt files of crates/ are turned; functions of src/,
-strings, inputs and outputs have none of these names. Four lemmas would have fallen together with a definition:
+strings, inputs and outputs have none of these names (one comment had: it was put back by hand). Four lemmas would have fallen together with a definition:
 'sealed-length', 'in-byte1' and 'said-from' got the ending that lemmas get then, and 'bit-xor' says that it is about a bit.
 """
 import os

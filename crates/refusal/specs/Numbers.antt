@@ -1,5 +1,5 @@
 -- The number of each refusal, by which users know it.
-use Rattle.std.specs.Prelude.{ℕ}
+use Rattle.std.specs.Prelude.{ℕ, List, ◌++◌, codes, decimal}
 use Rattle.refusal.specs.declared.Refusal.{Refusal}
 use Rattle.refusal.specs.declared.Refusal.TheVariants.{LoadLength, WindowFull, LaneFull, Nothing, RepliesFull, ShortBuffer, FrameLength, WideField, Unsound, NoSuchLoad, QueueFull, NoSuchLine}
 
@@ -16,3 +16,7 @@ number_of Unsound = 9
 number_of NoSuchLoad = 10
 number_of QueueFull = 11
 number_of NoSuchLine = 12
+
+-- The word that is printed for it.
+abbrev pub refusal_word : Refusal → List ℕ
+refusal_word refusal = codes "no-" ++ decimal (number_of refusal)

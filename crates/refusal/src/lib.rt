@@ -2,9 +2,12 @@
 // and each stands for one number, by which the bench prints it. A refused call changes nothing.
 #![tactic(auto)]
 
-ghost use Rattle.std.specs.Prelude.{◌≡◌, ◌≤◌};
-ghost use Rattle.refusal.specs.declared.Refusal.{Refusal};
-ghost use Rattle.refusal.specs.Numbers.{number_of};
+ghost use Rattle.std.specs.Prelude.{◌≤◌, Some};
+ghost use Rattle.refusal.specs.Naming.{Tells};
+ghost use Rattle.refusal.specs.Numbers.{number_of, refusal_word};
+
+use std::error::Error;
+use std::fmt;
 
 #[derive(Clone, Copy, Debug, PartialEq, Eq)]
 pub enum Refusal {
@@ -35,12 +38,23 @@ pub enum Refusal {
 }
 
 impl Refusal {
-    // The refusal's number, 1 to 12, which tells it from every other.
+    // The refusal's number, 1 to 12, which tells it from every other. It is a method, since a conversion would not say that it is
+    // the number by which users know the refusal.
     pub fn number(self) -> u8
-        ensures value { result ≡ number_of self }
+        ensures tells { Tells number_of self result }
         ensures within { (1 ≤ result) × (result ≤ 12) }
-        ensures distinct { (other : Refusal) → number_of other ≡ result → other ≡ self }
     {
         self as u8
     }
 }
+
+impl fmt::Display for Refusal {
+    ghost output = { λ refusal. Some (refusal_word refusal) };
+
+    fn fmt<W: fmt::Write>(&self, f: &mut fmt::Formatter<W>) -> fmt::Result {
+        let number = self.number();
+        write!(f, "no-{number}")
+    }
+}
+
+impl Error for Refusal {}

@@ -1,20 +1,10 @@
 -- Three bytes and the fields in them. Assumes nothing.
-use Rattle.std.proofs.Common.{◌≡◌, ℕ, ◌+◌, ◌*◌, ◌/◌, ◌%◌, ◌^◌, ◌<◌, ◌≤◌, true, cond, eqb, List, [], ◌∷◌, length, get_or, Ok, Err, Result, sym, refl, ap, ◌∙◌, arith, eq-eqb, ne_eqb}
-use lib.Bits.{bit_or}
-use Rattle.std.proofs.lemmas.Nat.{or_shifted, shl_whole}
+use Rattle.std.proofs.Common.{◌≡◌, ℕ, ◌+◌, ◌*◌, ◌/◌, ◌%◌, ◌<◌, true, cond, eqb, List, [], ◌∷◌, length, get_or, Ok, Err, Result, sym, refl, ap, ◌∙◌, arith, eq-eqb, ne_eqb}
 use Rattle.refusal.specs.declared.Refusal.{Refusal}
 use Rattle.refusal.specs.declared.Refusal.TheVariants.{Unsound}
 use Rattle.symbol.specs.declared.Symbol.{Symbol}
 use Rattle.symbol.specs.Check.{check_of}
 use Rattle.symbol.specs.Layout.{Fits, unchecked_of, written_of, fields_of, read_of}
-
--- three bytes as a list of three
-pub three : (xs : List ℕ) → length xs ≡ 3 → xs ≡ get_or xs 0 0 ∷ get_or xs 1 0 ∷ get_or xs 2 0 ∷ []
-three [] h = absurd (omega arith)
-three (a ∷ []) h = absurd (omega arith)
-three (a ∷ b ∷ []) h = absurd (omega arith)
-three (a ∷ b ∷ c ∷ []) h = refl
-three (a ∷ b ∷ c ∷ d ∷ xs) h = absurd (omega arith)
 
 -- the fields of what was written are those that were written
 pub fields_written : (s : Symbol) (k : ℕ) → Fits s → k < 32 → fields_of (s.stype0 * 32 + s.parameter0) (s.parameter1 * 8 + s.stype1) (s.cmd * 32 + k) ≡ s
@@ -37,9 +27,13 @@ reads_written s f h =
     let read : Result Symbol Refusal = Err Unsound in
     ap (λ t. cond t (Ok x) read) right ∙ ap Ok same
 
--- two fields in a number of w bits, the high one of h bits and the low one of l
-pub joined : (w high h l low : ℕ) → h + l ≤ w → high < 2 ^ h → low < 2 ^ l → bit_or (high * 2 ^ l % 2 ^ w) low ≡ high * 2 ^ l + low
-joined w high h l low e p q = ap (λ x. bit_or x low) (shl_whole high h l w p e) ∙ or_shifted high l low q
+-- three bytes as a list of three
+pub three : (xs : List ℕ) → length xs ≡ 3 → xs ≡ get_or xs 0 0 ∷ get_or xs 1 0 ∷ get_or xs 2 0 ∷ []
+three [] h = absurd (omega arith)
+three (a ∷ []) h = absurd (omega arith)
+three (a ∷ b ∷ []) h = absurd (omega arith)
+three (a ∷ b ∷ c ∷ []) h = refl
+three (a ∷ b ∷ c ∷ d ∷ xs) h = absurd (omega arith)
 
 module _ (xs : List ℕ) (s : Symbol) (n : length xs ≡ 3) (fields : s ≡ fields_of (get_or xs 0 0) (get_or xs 1 0) (get_or xs 2 0)) where
   read_three : read_of xs ≡ cond (eqb (get_or xs 2 0 % 32) (check_of (unchecked_of s))) (Ok s) (Err Unsound)

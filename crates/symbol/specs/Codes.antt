@@ -1,5 +1,7 @@
 -- The codes that have a name, each with its number.
-use Rattle.std.specs.Prelude.{◌≡◌, ℕ, Some, None, Option, ◌≢◌}
+use Rattle.std.specs.Prelude.{◌≡◌, ℕ, Ok, Err, Result}
+use Rattle.symbol.specs.declared.Symbol.{Symbol}
+use Rattle.symbol.specs.declared.codes.NoName.{NoName}
 use Rattle.symbol.specs.declared.codes.Stype0.{Stype0}
 use Rattle.symbol.specs.declared.codes.Stype0.TheVariants.{Accepted, Retry, NotAccepted, Status, Response}
 use Rattle.symbol.specs.declared.codes.Stype1.{Stype1}
@@ -35,6 +37,10 @@ Means Restart stype1 cmd = stype1 ≡ 3
 Means Request stype1 cmd = (stype1 ≡ 4) × (cmd ≡ 4)
 Means Nop stype1 cmd = stype1 ≡ 7
 
+-- The symbol that says this, with an ackID and a second parameter, and asks that.
+abbrev pub symbol_of : Stype0 → ℕ → ℕ → Stype1 → Symbol
+symbol_of says k q asks = record { stype0 = stype0_of says; parameter0 = k; parameter1 = q; stype1 = stype1_of asks; cmd = cmd_of asks }
+
 -- Why a packet was not accepted.
 abbrev pub cause_of : Cause → ℕ
 cause_of UnexpectedAckId = 1
@@ -49,16 +55,7 @@ status_of RetryStopped = 4
 status_of ErrorStopped = 5
 status_of Failed = 2
 
--- A code's name is the one whose number it is, and a code has none where no name has that number.
-abbrev pub Names : {A : Type 0} → (A → ℕ) → ℕ → Option A → Type 0
-Names {A} number_of code (Some name) = number_of name ≡ code
-Names {A} number_of code None = (name : A) → number_of name ≢ code
-
--- The same of the two fields stype1 and cmd.
-abbrev pub NamesBoth : ℕ → ℕ → Option Stype1 → Type 0
-NamesBoth stype1 cmd (Some name) = Means name stype1 cmd
-NamesBoth stype1 cmd None = (name : Stype1) → Means name stype1 cmd → ⊥
-
--- No other name has this number.
-abbrev pub Only : {A : Type 0} → (A → ℕ) → A → ℕ → Type 0
-Only {A} number_of name n = (other : A) → number_of other ≡ n → other ≡ name
+-- The name of the two fields stype1 and cmd is one that they mean, and they have none where they mean none.
+abbrev pub NamesBoth : ℕ × ℕ → Result Stype1 NoName → Type 0
+NamesBoth codes (Ok name) = Means name codes.0 codes.1
+NamesBoth codes (Err e) = (name : Stype1) → Means name codes.0 codes.1 → ⊥

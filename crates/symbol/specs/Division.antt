@@ -1,11 +1,11 @@
 -- Polynomials whose coefficients are bits, written as numbers: bit i of a number is the coefficient of X^i,
 -- and the sum of two is their exclusive or. A register of `width` bits divides by X^width + terms.
-use Rattle.std.specs.Prelude.{◌≡◌, ℕ, zero, suc, ◌+◌, ◌-◌, ◌*◌, ◌/◌, ◌%◌, ◌^◌, ◌<◌, Bool, cond, List, [], ◌∷◌, length, ◌==◌, bit_xor}
+use Rattle.std.specs.Prelude.{◌≡◌, ℕ, zero, suc, ◌+◌, ◌-◌, ◌*◌, ◌/◌, ◌%◌, ◌^◌, ◌<◌, Bool, if◌then◌else◌, List, [], ◌∷◌, length, ◌==◌, bit_xor}
 
 -- The register takes one bit: it moves up by one place, and where the bit that falls out at the top
 -- differs from the bit taken, the terms are added.
 abbrev pub took_bit : ℕ → ℕ → ℕ → ℕ → ℕ
-took_bit width terms register bit = bit_xor (register * 2 % 2 ^ width) (cond (register / 2 ^ (width - 1) == bit) 0 terms)
+took_bit width terms register bit = bit_xor (register * 2 % 2 ^ width) (if register / 2 ^ (width - 1) == bit then 0 else terms)
 
 -- The register takes bits, one after another.
 abbrev pub took_bits : ℕ → ℕ → ℕ → List ℕ → ℕ
@@ -25,7 +25,7 @@ polynomial_of (b ∷ bs) = bit_xor (b * 2 ^ length bs) (polynomial_of bs)
 -- The product of two polynomials, one as the list of its coefficients: the sum of the other, moved up, for each that is 1.
 abbrev pub product_of : List Bool → ℕ → ℕ
 product_of [] p = 0
-product_of (q ∷ qs) p = bit_xor (cond q p 0 * 2 ^ length qs) (product_of qs p)
+product_of (q ∷ qs) p = bit_xor ((if q then p else 0) * 2 ^ length qs) (product_of qs p)
 
 -- A polynomial divided by X^width + terms has this remainder: some multiple of the divisor and the remainder,
 -- which is of lower degree, are its sum.

@@ -1,6 +1,6 @@
 -- A control symbol as three bytes: its six fields, the most significant bit first, are
 -- stype0 (3 bits), parameter0 (5), parameter1 (5), stype1 (3), cmd (3) and the check (5).
-use Rattle.std.specs.Prelude.{◌≡◌, ℕ, ◌+◌, ◌*◌, ◌/◌, ◌%◌, ◌<◌, cond, List, [], ◌∷◌, Ok, Err, Result, ◌==◌}
+use Rattle.std.specs.Prelude.{◌≡◌, ℕ, ◌+◌, ◌*◌, ◌/◌, ◌%◌, ◌<◌, if◌then◌else◌, List, [], ◌∷◌, Ok, Err, Result, ◌==◌}
 use Rattle.refusal.specs.declared.Refusal.{Refusal}
 use Rattle.refusal.specs.declared.Refusal.TheVariants.{WideField, Unsound}
 use Rattle.symbol.specs.declared.Symbol.{Symbol}
@@ -31,7 +31,7 @@ abbrev pub read_of : List ℕ → Result Symbol Refusal
 read_of [] = Err Unsound
 read_of (a ∷ []) = Err Unsound
 read_of (a ∷ b ∷ []) = Err Unsound
-read_of (a ∷ b ∷ c ∷ []) = cond (c % 32 == check_of (unchecked_of (fields_of a b c))) (Ok (fields_of a b c)) (Err Unsound)
+read_of (a ∷ b ∷ c ∷ []) = if c % 32 == check_of (unchecked_of (fields_of a b c)) then Ok (fields_of a b c) else Err Unsound
 read_of (a ∷ b ∷ c ∷ d ∷ rest) = Err Unsound
 
 -- What writing answers, and leaves in the place that held `before`.

@@ -8,7 +8,7 @@ pub mod codes;
 #[cfg(test)]
 mod tests;
 
-ghost use Rattle.std.specs.Prelude.{◌≡◌, ◌+◌, ◌-◌, ◌*◌, ◌/◌, ◌%◌, ◌<◌, ◌≤◌, T, ◌++◌};
+ghost use Rattle.std.specs.Prelude.{◌≡◌, ◌+◌, ◌-◌, ◌*◌, ◌/◌, ◌%◌, ◌<◌, ◌≤◌, ◌++◌, ◌↔◌, IsTrue};
 ghost use Rattle.symbol.specs.Division.{took_bit};
 ghost use Rattle.symbol.specs.Check.{check_of};
 ghost use Rattle.symbol.specs.Layout.{Fits, unchecked_of, written_of, fields_of, read_of, Writes, ReadsBack, Divides, WritesBack};
@@ -45,8 +45,8 @@ fn check_of(nineteen: u32) -> u8
     ensures value { result ≡ check_of nineteen }
 {
     let mut register = 0b11111;
-    for i in 0..19u32 {
-        register = took_bit(register, (nineteen >> (18 - i) & 1) as u8);
+    for i in (0..19u32).rev() {
+        register = took_bit(register, (nineteen >> i & 1) as u8);
     }
     took_bit(register, 0)
 }
@@ -54,8 +54,7 @@ fn check_of(nineteen: u32) -> u8
 impl Symbol {
     // Whether each field has a value that its bits can hold.
     fn fits(self) -> bool
-        ensures yes { T result → Fits self }
-        ensures no { Fits self → T result }
+        ensures { IsTrue result ↔ Fits self }
     {
         self.stype0 < 8
             && self.parameter0 < 32
@@ -92,8 +91,7 @@ impl Symbol {
     // Whether `check` is the check of the five fields.
     fn has_check(self, check: u8) -> bool
         requires { Fits self }
-        ensures yes { T result → check ≡ check_of (unchecked_of self) }
-        ensures no { check ≡ check_of (unchecked_of self) → T result }
+        ensures { IsTrue result ↔ (check ≡ check_of (unchecked_of self)) }
     {
         check == self.check()
     }

@@ -1,20 +1,10 @@
 -- Bytes with their first six bits zero. Assumes nothing.
-use Rattle.std.proofs.Common.{◌≡◌, ℕ, zero, suc, ◌%◌, ◌<◌, List, [], ◌∷◌, ◌++◌, length, get_or, take, drop, refl, ap, arith}
+use Rattle.std.proofs.Common.{◌≡◌, ℕ, zero, suc, ◌%◌, ◌<◌, List, [], ◌∷◌, ◌++◌, length, take, drop, refl, ap, arith}
 use Rattle.packet.specs.Crc.{cleared_of}
 
 pub length_cleared : (bs : List ℕ) → length (cleared_of bs) ≡ length bs
 length_cleared [] = refl
 length_cleared (b ∷ bs) = refl
-
-pub cleared_first : (bs : List ℕ) (i : ℕ) → i ≡ 0 → get_or (cleared_of bs) i 0 ≡ get_or bs i 0 % 4
-cleared_first [] i h = refl
-cleared_first (b ∷ bs) zero h = refl
-cleared_first (b ∷ bs) (suc i) h = absurd (omega arith)
-
-pub cleared_later : (bs : List ℕ) (i : ℕ) → 0 < i → get_or (cleared_of bs) i 0 ≡ get_or bs i 0
-cleared_later [] i h = refl
-cleared_later (b ∷ bs) zero h = absurd (omega arith)
-cleared_later (b ∷ bs) (suc i) h = refl
 
 -- cleared twice is cleared once
 pub cleared_cleared : (bs : List ℕ) → cleared_of (cleared_of bs) ≡ cleared_of bs

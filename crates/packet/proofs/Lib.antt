@@ -1,6 +1,5 @@
 pub mod Divides
 pub mod Steps
-pub mod Table
 pub mod Cleared
 pub mod Sounds
 pub mod Sealed

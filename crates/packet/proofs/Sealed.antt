@@ -1,47 +1,54 @@
 -- A sealed packet: its length, that it is sound, and where its load stands in it. Assumes nothing.
-use Rattle.std.proofs.Common.{◌≡◌, ℕ, ◌+◌, ◌-◌, ◌*◌, ◌/◌, ◌%◌, ◌<◌, ◌≤◌, min, true, false, cond, eqb, leb, List, [], ◌∷◌, ◌++◌, length, take, drop, replicate, sym, refl, ap, ◌∙◌, ⊎_elim, append_assoc, arith}
+use Rattle.std.proofs.Common.{◌≡◌, ℕ, ◌+◌, ◌-◌, ◌%◌, ◌<◌, ◌≤◌, min, true, false, if◌then◌else◌, ◌==◌, nat_le, List, [], ◌∷◌, ◌++◌, length, take, drop, replicate, sym, refl, ap, ◌∙◌, ⊎_elim, subst, append_assoc, arith}
 use Rattle.std.proofs.lemmas.List.{append-nil, length-replicate, length-append, length-take, length-drop, take_at, drop_at, drop-take, drop_all, take-append-drop}
-use Rattle.std.proofs.lemmas.Bool.{cond-true, cond-false, cases_Bool, cases_lt, le-leb, lt-leb, eqb-true, eqb-false}
+use Rattle.std.proofs.lemmas.Bool.{cond-true, cond-false, cases_lt, le-leb, lt-leb}
+use Rattle.std.specs.Int.{next_multiple_of}
 use Rattle.symbol.specs.Division.{bits_of}
 use Rattle.packet.specs.Crc.{step_of, crc_of, cleared_of, run_of, bytes_of}
-use Rattle.packet.specs.Sealing.{Sealable, with_crc, checked_of, pad_of, sealed_of, SealedTo, crc_length, sealed_length}
+use Rattle.packet.specs.Sealing.{Sealable, with_crc, checked_of, pad_of, sealed_of, SealedTo, crc_length, sealed_length, SealsToLength}
 use Rattle.packet.specs.Opening.{first_of, rest_of}
 use Rattle.packet.specs.Soundness.{packet_length, Sound}
 use Rattle.packet.proofs.Steps.{crc_own, crc_lt}
 use Rattle.packet.proofs.Cleared.{length_cleared, take_cleared, drop_cleared, cleared_append, cleared_cleared}
-use Rattle.packet.proofs.Sounds.{run_append, length_from, length_parts, sound_from, sound_length}
+use Rattle.packet.proofs.Sounds.{run_append, length_parts, sound_from, sound_length}
 
 pub length_crc : (bs : List ℕ) → length (with_crc bs) ≡ length bs + 2
 length_crc bs = length-append bs (bytes_of (run_of bs))
 
 -- bytes with their CRC bring the run to zero
-pub run_crc : (bs : List ℕ) → 0 < length bs → run_of (with_crc bs) ≡ 0
+run_crc : (bs : List ℕ) → 0 < length bs → run_of (with_crc bs) ≡ 0
 run_crc bs h = run_append bs (bytes_of (run_of bs)) h ∙ crc_own (run_of bs) (crc_lt 0xFFFF (cleared_of bs) (omega arith))
 
-length_pad : (n : ℕ) → n % 2 ≡ 0 → n + length (pad_of n) ≡ (n + 3) / 4 * 4
-length_pad n even =
-    ⊎_elim
-    (λ e. let z : length (pad_of n) ≡ 0 = ap length (cond-true (eqb (n % 4) 0) [] (0 ∷ 0 ∷ []) e) in let m = eqb-true (n % 4) 0 e in omega arith)
-    (λ e. let z : length (pad_of n) ≡ 2 = ap length (cond-false (eqb (n % 4) 0) [] (0 ∷ 0 ∷ []) e) in let m = eqb-false (n % 4) 0 e in omega arith)
-    (cases_Bool (eqb (n % 4) 0))
+-- zero bytes up to a multiple of 4
+pad_zeros : (n : ℕ) → n % 2 ≡ 0 → replicate (next_multiple_of n 4 - n) 0 ≡ pad_of n
+pad_zeros n even =
+    elim (n % 4 == 0) as (λ b. n % 4 == 0 ≡ b → replicate {A = ℕ} (next_multiple_of n 4 - n) 0 ≡ (if b then [] else 0 ∷ 0 ∷ [])) [
+      | true ↦ λ e. let none : next_multiple_of n 4 - n ≡ 0 = grind arith in ap (λ k. replicate {A = ℕ} k 0) none
+      | false ↦ λ e. let two : next_multiple_of n 4 - n ≡ 2 = grind arith in ap (λ k. replicate {A = ℕ} k 0) two
+    ] refl
 
 -- zero bytes leave the value zero
 run_pad : (n : ℕ) → crc_of 0 (pad_of n) ≡ 0
 unfolding step_of bits_of
-run_pad n = elim (eqb (n % 4) 0) as (λ b. crc_of 0 (cond b [] (0 ∷ 0 ∷ [])) ≡ 0) [ true ↦ refl | false ↦ refl ]
+run_pad n = elim (n % 4 == 0) as (λ b. crc_of 0 (if b then [] else 0 ∷ 0 ∷ []) ≡ 0) [ true ↦ refl | false ↦ refl ]
 
 pub checked_short : (bs : List ℕ) → length bs ≤ 80 → checked_of bs ≡ with_crc bs
-checked_short bs h = cond-true (leb (length bs) 80) _ _ (le-leb (length bs) 80 h)
+checked_short bs h = cond-true (nat_le (length bs) 80) _ _ (le-leb (length bs) 80 h)
 
 -- the first 80 bytes with their CRC, and the rest after them
-unfoldable pub long_of : List ℕ → List ℕ
+unfoldable long_of : List ℕ → List ℕ
 long_of bs = with_crc (take 80 bs) ++ drop 80 bs
 
-pub checked_long : (bs : List ℕ) → 80 < length bs → checked_of bs ≡ with_crc (long_of bs)
+checked_long : (bs : List ℕ) → 80 < length bs → checked_of bs ≡ with_crc (long_of bs)
 unfolding long_of
-checked_long bs h = cond-false (leb (length bs) 80) _ _ (lt-leb (length bs) 80 h)
+checked_long bs h = cond-false (nat_le (length bs) 80) _ _ (lt-leb (length bs) 80 h)
 
-pub length_first : (bs : List ℕ) → 80 < length bs → length (with_crc (take 80 bs)) ≡ 82
+-- what holds of few bytes with their CRC, and of more with their two, holds of checked bytes
+by_length : (P : List ℕ → Type 0) (bs : List ℕ) → (length bs ≤ 80 → P (with_crc bs)) → (80 < length bs → P (with_crc (long_of bs))) → P (checked_of bs)
+by_length P bs few many =
+    ⊎_elim (λ lt. subst P (sym (checked_long bs lt)) (many lt)) (λ le. subst P (sym (checked_short bs le)) (few le)) (cases_lt 80 (length bs))
+
+length_first : (bs : List ℕ) → 80 < length bs → length (with_crc (take 80 bs)) ≡ 82
 length_first bs h = length_crc (take 80 bs) ∙ simp length-take (omega arith)
 
 length_long : (bs : List ℕ) → 80 < length bs → length (long_of bs) ≡ length bs + 2
@@ -50,25 +57,14 @@ length_long bs h =
     let f = length_first bs h in
     length-append (with_crc (take 80 bs)) (drop 80 bs) ∙ simp length-drop (omega arith)
 
-pub crc_two : (n : ℕ) → 80 < n → crc_length n ≡ 4
-crc_two n h = cond-false (leb n 80) 2 4 (lt-leb n 80 h)
-
-pub crc_one : (n : ℕ) → n ≤ 80 → crc_length n ≡ 2
-crc_one n h = cond-true (leb n 80) 2 4 (le-leb n 80 h)
-
-pub length_checked : (bs : List ℕ) → length (checked_of bs) ≡ length bs + crc_length (length bs)
+length_checked : (bs : List ℕ) → length (checked_of bs) ≡ length bs + crc_length (length bs)
 length_checked bs =
-    ⊎_elim
-    (λ lt. let k = length_long bs lt in let t = crc_two (length bs) lt in ap length (checked_long bs lt) ∙ length_crc (long_of bs) ∙ omega arith)
-    (λ le. let t = crc_one (length bs) le in ap length (checked_short bs le) ∙ length_crc bs ∙ omega arith)
-    (cases_lt 80 (length bs))
+    by_length (λ l. length l ≡ length bs + crc_length (length bs)) bs
+    (λ le. length_crc bs ∙ grind arith)
+    (λ lt. let k = length_long bs lt in length_crc (long_of bs) ∙ grind arith)
 
 run_checked : (bs : List ℕ) → 0 < length bs → run_of (checked_of bs) ≡ 0
-run_checked bs h =
-    ⊎_elim
-    (λ lt. let k = length_long bs lt in ap run_of (checked_long bs lt) ∙ run_crc (long_of bs) (omega arith))
-    (λ le. ap run_of (checked_short bs le) ∙ run_crc bs h)
-    (cases_lt 80 (length bs))
+run_checked bs h = by_length (λ l. run_of l ≡ 0) bs (λ le. run_crc bs h) (λ lt. let k = length_long bs lt in run_crc (long_of bs) (omega arith))
 
 -- the first 82 bytes of a long packet are 80 with their CRC
 first_checked : (bs ys : List ℕ) → 80 < length bs → take 82 (checked_of bs ++ ys) ≡ with_crc (take 80 bs)
@@ -79,17 +75,28 @@ first_checked bs ys h =
     ∙ ap (take 82) (append_assoc (long_of bs) crc ys ∙ append_assoc (with_crc (take 80 bs)) (drop 80 bs) (crc ++ ys))
     ∙ take_at (with_crc (take 80 bs)) (drop 80 bs ++ (crc ++ ys)) 82 (length_first bs h)
 
--- the packet of a load has the length that the rule gives
-pub length_sealed : (load : List ℕ) → length load % 2 ≡ 0 → length (sealed_of load) ≡ sealed_length (length load)
+-- checked bytes have an even number
+even_checked : (load : List ℕ) → length load % 2 ≡ 0 → length (checked_of (cleared_of load)) % 2 ≡ 0
+even_checked load even = let n = length_cleared load in let m = length_checked (cleared_of load) in grind arith
+
+-- what pads a packet, as zeros up to a multiple of 4
+pub padding : (load : List ℕ) (n : ℕ) → length load % 2 ≡ 0 → n ≡ length (checked_of (cleared_of load)) → replicate (next_multiple_of n 4 - n) 0 ≡ pad_of (length (checked_of (cleared_of load)))
+padding load n even e = pad_zeros n (ap (λ k. k % 2) e ∙ even_checked load even) ∙ ap pad_of e
+
+-- the packet of a load ends at the multiple of 4 after its checked bytes
+pub padded_sealed : (load : List ℕ) (n : ℕ) → length load % 2 ≡ 0 → n ≡ length (checked_of (cleared_of load)) → next_multiple_of n 4 ≡ length (sealed_of load)
 unfolding sealed_of
+padded_sealed load n even e =
+    let checked = checked_of (cleared_of load) in
+    let zeros = sym (length-replicate (next_multiple_of n 4 - n) 0) ∙ ap length (padding load n even e) in
+    let whole = length-append checked (pad_of (length checked)) in
+    omega arith
+
+-- and has the length that the rule gives
+length_sealed : (load : List ℕ) → length load % 2 ≡ 0 → length (sealed_of load) ≡ sealed_length (length load)
 length_sealed load even =
-    let bs = cleared_of load in
-    let n = length_cleared load in
-    let m = length_checked bs in
-    let two : crc_length (length bs) % 2 ≡ 0 = elim (leb (length bs) 80) as (λ b. cond b 2 4 % 2 ≡ 0) [ true ↦ refl | false ↦ refl ] in
-    length-append (checked_of bs) (pad_of (length (checked_of bs)))
-    ∙ length_pad (length (checked_of bs)) (omega arith)
-    ∙ ap (λ k. (k + 3) / 4 * 4) (m ∙ ap (λ k. k + crc_length k) n)
+    let checked = length_checked (cleared_of load) ∙ ap (λ k. k + crc_length k) (length_cleared load) in
+    sym (padded_sealed load (length (checked_of (cleared_of load))) even refl) ∙ ap (λ k. next_multiple_of k 4) checked
 
 pub sealed_to : (n : ℕ) → n % 2 ≡ 0 → SealedTo n (sealed_length n)
 sealed_to n even load size = length_sealed load (ap (λ k. k % 2) size ∙ even) ∙ ap sealed_length size
@@ -102,16 +109,12 @@ sealed_length_lem n m even every =
     sym (sealed_to n even zeros size) ∙ every zeros size
 
 -- a load's length gives a packet's length
-pub length_within : (n : ℕ) → Sealable n → packet_length (sealed_length n) ≡ true
-length_within n h =
-    ⊎_elim
-    (λ lt. let t = crc_two n lt in length_from (sealed_length n) (omega arith) (omega arith) (omega arith))
-    (λ le. let t = crc_one n le in length_from (sealed_length n) (omega arith) (omega arith) (omega arith))
-    (cases_lt 80 n)
+length_within : (n : ℕ) → Sealable n → packet_length (sealed_length n) ≡ true
+length_within n h = grind arith
 
 -- above 84 bytes the load has more than 80
 more_load : (n : ℕ) → Sealable n → 84 < sealed_length n → 80 < n
-more_load n h k = ⊎_elim (λ lt. lt) (λ le. let t = crc_one n le in absurd (omega arith)) (cases_lt 80 n)
+more_load n h k = grind arith
 
 -- a sealed packet is sound
 pub sealed_sound : (load : List ℕ) → Sealable (length load) → Sound (sealed_of load)
@@ -130,25 +133,23 @@ sealed_sound load h =
     let long : 80 < length bs = (let e = more_load (length load) h (omega arith) in omega arith) in
     ap run_of (first_checked bs pad long) ∙ run_crc (take 80 bs) (simp length-take (omega arith)))
 
-short_load : (bs pad : List ℕ) → length bs ≤ 80 → first_of (length bs) (checked_of bs ++ pad) ++ rest_of (length bs) (checked_of bs ++ pad) ≡ bs
+short_load : (bs pad : List ℕ) → length bs ≤ 80 → first_of (length bs) (with_crc bs ++ pad) ++ rest_of (length bs) (with_crc bs ++ pad) ≡ bs
 short_load bs pad h =
-    let p = checked_of bs ++ pad in
+    let p = with_crc bs ++ pad in
     let crc = bytes_of (run_of bs) in
-    let whole : p ≡ bs ++ (crc ++ pad) = ap (λ x. x ++ pad) (checked_short bs h) ∙ append_assoc bs crc pad in
     let few : min (length bs) 80 ≡ length bs = omega arith in
-    let first = (λ i. take (few i) (whole i)) ∙ take_at bs (crc ++ pad) (length bs) refl in
+    let first = (λ i. take (few i) (append_assoc bs crc pad i)) ∙ take_at bs (crc ++ pad) (length bs) refl in
     let rest : rest_of (length bs) p ≡ [] = drop_all 82 (take (length bs + 2) p) (simp length-take (omega arith)) in
     (λ i. first i ++ rest i) ∙ append-nil bs
 
-long_load : (bs pad : List ℕ) → 80 < length bs → first_of (length bs) (checked_of bs ++ pad) ++ rest_of (length bs) (checked_of bs ++ pad) ≡ bs
+long_load : (bs pad : List ℕ) → 80 < length bs → first_of (length bs) (with_crc (long_of bs) ++ pad) ++ rest_of (length bs) (with_crc (long_of bs) ++ pad) ≡ bs
 unfolding long_of
 long_load bs pad h =
-    let p = checked_of bs ++ pad in
     let front = take 80 bs in
     let one = bytes_of (run_of front) in
-    let behind = bytes_of (run_of (long_of bs)) ++ pad in
-    let whole : p ≡ with_crc front ++ (drop 80 bs ++ behind) =
-    ap (λ x. x ++ pad) (checked_long bs h) ∙ append_assoc (long_of bs) (bytes_of (run_of (long_of bs))) pad ∙ append_assoc (with_crc front) (drop 80 bs) behind in
+    let two = bytes_of (run_of (long_of bs)) in
+    let behind = two ++ pad in
+    let whole = append_assoc (long_of bs) two pad ∙ append_assoc (with_crc front) (drop 80 bs) behind in
     let many : min (length bs) 80 ≡ 80 = omega arith in
     let eighty : length front ≡ 80 = simp length-take (omega arith) in
     let first = (λ i. take (many i) (whole i)) ∙ ap (take 80) (append_assoc front one (drop 80 bs ++ behind)) ∙ take_at front (one ++ (drop 80 bs ++ behind)) 80 eighty in
@@ -168,7 +169,7 @@ sealed_load load =
     let bs = cleared_of load in
     let pad = pad_of (length (checked_of bs)) in
     ap (λ n. first_of n (checked_of bs ++ pad) ++ rest_of n (checked_of bs ++ pad)) (sym (length_cleared load))
-    ∙ ⊎_elim (long_load bs pad) (short_load bs pad) (cases_lt 80 (length bs))
+    ∙ by_length (λ l. first_of (length bs) (l ++ pad) ++ rest_of (length bs) (l ++ pad) ≡ bs) bs (short_load bs pad) (long_load bs pad)
 
 -- the second CRC goes on from zero over the rest
 long_crc : (load : List ℕ) → 80 < length load → run_of (long_of (cleared_of load)) ≡ crc_of 0 (drop 80 load)
@@ -191,11 +192,6 @@ long_parts load v h e =
     let rest = sym (drop_cleared 79 load) in
     (λ i. front i ++ (rest i ++ crc i)) ∙ sym (append_assoc (with_crc (take 80 bs)) (drop 80 bs) (bytes_of (run_of (long_of bs)))) ∙ sym (checked_long bs (omega arith))
 
--- a packet's length in its two summands
-pub length_padded : (load : List ℕ) → length (sealed_of load) ≡ length (checked_of (cleared_of load)) + length (pad_of (length (checked_of (cleared_of load))))
-unfolding sealed_of
-length_padded load = length-append (checked_of (cleared_of load)) (pad_of (length (checked_of (cleared_of load))))
-
 pub sealed_at_most : (load : List ℕ) → Sealable (length load) → length (sealed_of load) ≤ 276
 sealed_at_most load h = (length_parts (length (sealed_of load)) (sound_length (sealed_of load) (sealed_sound load h))).2
 
@@ -203,23 +199,19 @@ sealed_at_most load h = (length_parts (length (sealed_of load)) (sound_length (s
 kept : (xs ys : List ℕ) → 0 < length xs → cleared_of xs ≡ xs → cleared_of (xs ++ ys) ≡ xs ++ ys
 kept xs ys h e = cleared_append xs ys h ∙ ap (λ l. l ++ ys) e
 
-kept_long : (bs : List ℕ) → 80 < length bs → cleared_of bs ≡ bs → cleared_of (checked_of bs) ≡ checked_of bs
+kept_checked : (bs : List ℕ) → 0 < length bs → cleared_of bs ≡ bs → cleared_of (checked_of bs) ≡ checked_of bs
 unfolding long_of
-kept_long bs lt e =
+kept_checked bs h e =
     let first = take 80 bs in
+    by_length (λ l. cleared_of l ≡ l) bs
+    (λ le. kept bs (bytes_of (run_of bs)) h e)
+    (λ lt.
     let n : length first ≡ 80 = simp length-take (omega arith) in
     let m = length_first bs lt in
     let k = length_long bs lt in
     let one = kept first (bytes_of (run_of first)) (omega arith) (take_cleared 80 bs ∙ ap (take 80) e) in
     let two = kept (with_crc first) (drop 80 bs) (omega arith) one in
-    ap cleared_of (checked_long bs lt) ∙ kept (long_of bs) (bytes_of (run_of (long_of bs))) (omega arith) two ∙ sym (checked_long bs lt)
-
-kept_checked : (bs : List ℕ) → 0 < length bs → cleared_of bs ≡ bs → cleared_of (checked_of bs) ≡ checked_of bs
-kept_checked bs h e =
-    ⊎_elim
-    (λ lt. kept_long bs lt e)
-    (λ le. ap cleared_of (checked_short bs le) ∙ kept bs (bytes_of (run_of bs)) h e ∙ sym (checked_short bs le))
-    (cases_lt 80 (length bs))
+    kept (long_of bs) (bytes_of (run_of (long_of bs))) (omega arith) two)
 
 -- a sealed packet begins with six zero bits
 pub cleared_sealed : (load : List ℕ) → Sealable (length load) → cleared_of (sealed_of load) ≡ sealed_of load
@@ -229,3 +221,9 @@ cleared_sealed load h =
     let n = length_cleared load in
     let m = length_checked bs in
     kept (checked_of bs) (pad_of (length (checked_of bs))) (omega arith) (kept_checked bs (omega arith) (cleared_cleared load))
+
+pub length_law : (load : List ℕ) → SealsToLength load
+length_law load h = length_sealed load h.0
+
+-- what every call of sealing ensures of the load
+pub ruleset sealing_laws = (length_law, sealed_sound, sealed_load)

@@ -1,28 +1,32 @@
 -- The running value: it adds up with the exclusive or, and its own two bytes bring it to zero. Assumes nothing.
-use Rattle.std.proofs.Common.{◌≡◌, ℕ, zero, suc, ◌+◌, ◌*◌, ◌/◌, ◌%◌, ◌^◌, ◌<◌, ◌≤◌, cond, eqb, List, [], ◌∷◌, ◌++◌, length, get_or, drop, sym, refl, ap, ◌∙◌, arith, eq-eqb}
+use Rattle.std.proofs.Common.{◌≡◌, ℕ, zero, suc, ◌+◌, ◌*◌, ◌/◌, ◌%◌, ◌^◌, ◌<◌, if◌then◌else◌, ◌==◌, List, [], ◌∷◌, sym, refl, ap, ◌∙◌, arith, eq-eqb}
 use lib.Bits.{bit_xor, xor_self, xor_zero_r, xor_zero_l, xor_block, xor_lt, xor_comm, xor_assoc, xor_shr, xor_mod}
 use Rattle.std.proofs.lemmas.Nat.{shr-shr}
-use Rattle.std.proofs.lemmas.List.{at_drop_more, at_drop_all}
 use Rattle.symbol.specs.Division.{took_bit, took_bits, bits_of}
 use Rattle.packet.specs.Crc.{step_of, crc_of, bytes_of}
 use Rattle.symbol.proofs.Divides.{took_lt, tooks_lt}
-
--- one part after the other
-pub crc_append : (v : ℕ) (xs ys : List ℕ) → crc_of v (xs ++ ys) ≡ crc_of (crc_of v xs) ys
-crc_append v [] ys = refl
-crc_append v (x ∷ xs) ys = crc_append (step_of v x) xs ys
 
 abbrev took : ℕ → ℕ → ℕ
 took = took_bit 16 0x1021
 
 abbrev term : ℕ → ℕ → ℕ
-term t b = cond (eqb t b) 0 0x1021
+term t b = if t == b then 0 else 0x1021
 
 interchange : (a b c d : ℕ) → bit_xor (bit_xor a b) (bit_xor c d) ≡ bit_xor (bit_xor a c) (bit_xor b d)
 interchange a b c d =
     xor_assoc a b (bit_xor c d)
     ∙ ap (bit_xor a) (sym (xor_assoc b c d) ∙ ap (λ x. bit_xor x d) (xor_comm b c) ∙ xor_assoc c b d)
     ∙ sym (xor_assoc a c (bit_xor b d))
+
+-- what holds of two bits, by their four values
+bits_both : (P : ℕ → ℕ → Type 0) → P 0 0 → P 0 1 → P 1 0 → P 1 1 → (x y : ℕ) → x < 2 → y < 2 → P x y
+bits_both P a b c d zero zero h k = a
+bits_both P a b c d zero (suc zero) h k = b
+bits_both P a b c d (suc zero) zero h k = c
+bits_both P a b c d (suc zero) (suc zero) h k = d
+bits_both P a b c d (suc (suc x)) y h k = absurd (omega arith)
+bits_both P a b c d zero (suc (suc y)) h k = absurd (omega arith)
+bits_both P a b c d (suc zero) (suc (suc y)) h k = absurd (omega arith)
 
 -- the terms that a differing bit brings in
 pick : ℕ → ℕ
@@ -31,23 +35,11 @@ pick (suc n) = 0x1021
 
 term_pick : (t a : ℕ) → t < 2 → a < 2 → term t a ≡ pick (bit_xor t a)
 unfolding pick
-term_pick zero zero h k = refl
-term_pick zero (suc zero) h k = refl
-term_pick zero (suc (suc a)) h k = absurd (omega arith)
-term_pick (suc zero) zero h k = refl
-term_pick (suc zero) (suc zero) h k = refl
-term_pick (suc zero) (suc (suc a)) h k = absurd (omega arith)
-term_pick (suc (suc t)) a h k = absurd (omega arith)
+term_pick = bits_both (λ t a. term t a ≡ pick (bit_xor t a)) refl refl refl refl
 
 pick_xor : (x y : ℕ) → x < 2 → y < 2 → pick (bit_xor x y) ≡ bit_xor (pick x) (pick y)
 unfolding pick
-pick_xor zero zero h k = refl
-pick_xor zero (suc zero) h k = refl
-pick_xor zero (suc (suc y)) h k = absurd (omega arith)
-pick_xor (suc zero) zero h k = refl
-pick_xor (suc zero) (suc zero) h k = refl
-pick_xor (suc zero) (suc (suc y)) h k = absurd (omega arith)
-pick_xor (suc (suc x)) y h k = absurd (omega arith)
+pick_xor = bits_both (λ x y. pick (bit_xor x y) ≡ bit_xor (pick x) (pick y)) refl refl refl refl
 
 term_xor : (t u a b : ℕ) → t < 2 → u < 2 → a < 2 → b < 2 → term (bit_xor t u) (bit_xor a b) ≡ bit_xor (term t a) (term u b)
 term_xor t u a b h i j k =
@@ -91,7 +83,7 @@ step_xor v w b c h k = bits_xor 8 v w b c h k
 
 -- a bit that is the one that falls out brings nothing in
 took_same : (r b : ℕ) → r / 32768 ≡ b → took r b ≡ r * 2 % 65536
-took_same r b h = ap (λ x. bit_xor (r * 2 % 65536) (cond x 0 0x1021)) (eq-eqb (r / 32768) b h) ∙ xor_zero_r (r * 2 % 65536)
+took_same r b h = ap (λ x. bit_xor (r * 2 % 65536) (if x then 0 else 0x1021)) (eq-eqb (r / 32768) b h) ∙ xor_zero_r (r * 2 % 65536)
 
 -- one bit of the value's own high byte takes itself out
 took_own : (v r n w : ℕ) → r / 32768 ≡ v / 2 ^ (8 + n) % 2 → r * 2 % 65536 ≡ w → took_bits 16 0x1021 r (bits_of (suc n) (v / 256)) ≡ took_bits 16 0x1021 w (bits_of n (v / 256))
@@ -134,10 +126,3 @@ pub crc_lt : (v : ℕ) (bs : List ℕ) → v < 65536 → crc_of v bs < 65536
 unfolding step_of
 crc_lt v [] h = h
 crc_lt v (b ∷ bs) h = crc_lt (step_of v b) bs (tooks_lt 16 0x1021 v (bits_of 8 b) (omega arith) h)
-
--- a loop over bytes: one byte more, and all of them
-pub crc_more : (v w all i : ℕ) (bs : List ℕ) → i < length bs → w ≡ step_of v (get_or bs i 0) → crc_of v (drop i bs) ≡ all → crc_of w (drop (i + 1) bs) ≡ all
-crc_more v w all i bs h e so = ap (λ x. crc_of x (drop (i + 1) bs)) e ∙ sym (at_drop_more (crc_of v) bs i 0 h) ∙ so
-
-pub crc_all : (v all i : ℕ) (bs : List ℕ) → length bs ≤ i → crc_of v (drop i bs) ≡ all → v ≡ all
-crc_all v all i bs h so = sym (at_drop_all (crc_of v) bs i h) ∙ so

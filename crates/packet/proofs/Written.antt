@@ -1,27 +1,15 @@
--- Bytes written one part after another to the front of a buffer. Assumes nothing.
-use Rattle.std.proofs.Common.{◌≡◌, ℕ, ◌+◌, ◌≤◌, List, ◌++◌, length, take, drop, sym, ap, ◌∙◌, append_assoc, arith}
-use Rattle.std.proofs.lemmas.List.{take_at, drop_at, drop-drop, length-append, length-take}
+-- Bytes written over the front of a buffer, and more behind them. Assumes nothing.
+use Rattle.std.proofs.Common.{◌≡◌, ℕ, List, ◌++◌, length, take, drop, sym, refl, ap, ◌∙◌, append_assoc}
+use Rattle.std.proofs.lemmas.List.{take_at, drop_at, drop-drop, length-append}
+use Rattle.packet.specs.Sealing.{written_over}
 
--- a part written behind what stands in front
-pub appended : (front part before buffer : List ℕ) (at : ℕ) → length front ≡ at → buffer ≡ front ++ drop at before → take at buffer ++ (part ++ drop (at + length part) buffer) ≡ (front ++ part) ++ drop (at + length part) before
-appended front part before buffer at n e =
-    let first = ap (take at) e ∙ take_at front (drop at before) at n in
-    let behind =
-    ap (λ b. drop (at + length part) b) e
-    ∙ sym (drop-drop (length part) at (front ++ drop at before))
-    ∙ ap (drop (length part)) (drop_at front (drop at before) at n)
-    ∙ drop-drop (length part) at before in
-    (λ i. first i ++ (part ++ behind i)) ∙ sym (append_assoc front part (drop (at + length part) before))
-
--- a second part written behind a first, as one
-pub both : (first second as-second before once twice : List ℕ) (at : ℕ) → at ≤ length before → once ≡ take at before ++ (first ++ drop (at + length first) before) → as-second ≡ second → twice ≡ take (at + length first) once ++ (as-second ++ drop (at + length first + length as-second) once) → twice ≡ take at before ++ ((first ++ second) ++ drop (at + length first + length second) before)
-both first second as-second before once twice at h one same two =
-    let front = take at before ++ first in
-    let end = at + length first in
-    let behind = drop (end + length second) before in
-    let n : length front ≡ end = length-append (take at before) first ∙ simp length-take (omega arith) in
-    two
-    ∙ ap (λ l. take end once ++ (l ++ drop (end + length l) once)) same
-    ∙ appended front second before once end n (one ∙ sym (append_assoc (take at before) first (drop end before)))
-    ∙ ap (λ l. l ++ behind) (append_assoc (take at before) first second)
-    ∙ append_assoc (take at before) (first ++ second) behind
+-- a part written behind what stands in front: at is where the front ends, and the rest stays as it was
+pub written_behind : (front part before first : List ℕ) (at : ℕ) → at ≡ length front → first ≡ written_over front before → take at first ++ (part ++ drop (length part) (drop at first)) ≡ written_over (front ++ part) before
+written_behind front part before first at end e =
+    let rest = drop (length front) before in
+    let so = take_at front rest (length front) refl in
+    let behind = drop_at front rest (length front) refl in
+    (λ i. take (end i) (e i) ++ (part ++ drop (length part) (drop (end i) (e i))))
+    ∙ (λ i. so i ++ (part ++ drop (length part) (behind i)))
+    ∙ sym (append_assoc front part (drop (length part) rest))
+    ∙ ap (λ l. (front ++ part) ++ l) (drop-drop (length part) (length front) before ∙ ap (λ n. drop n before) (sym (length-append front part)))

@@ -1,5 +1,5 @@
 -- The packet CRC: a register of sixteen bits that divides by X^16 + X^12 + X^5 + 1.
-use Rattle.std.specs.Prelude.{ℕ, ◌/◌, ◌%◌, List, [], ◌∷◌, ◌++◌}
+use Rattle.std.specs.Prelude.{ℕ, ◌/◌, ◌%◌, List, [], ◌∷◌, fold, flat_map}
 use Rattle.symbol.specs.Division.{took_bits, bits_of, dividend_of, Remainder}
 
 -- The running value takes one byte, its most significant bit first.
@@ -8,8 +8,7 @@ step_of value byte = took_bits 16 0x1021 value (bits_of 8 byte)
 
 -- The running value takes bytes, one after another.
 abbrev pub crc_of : ℕ → List ℕ → ℕ
-crc_of value [] = value
-crc_of value (b ∷ bs) = crc_of (step_of value b) bs
+crc_of value bytes = fold step_of value bytes
 
 -- Bytes of which the first six bits are zero.
 abbrev pub cleared_of : List ℕ → List ℕ
@@ -26,8 +25,7 @@ bytes_of value = value / 256 ∷ value % 256 ∷ []
 
 -- The bits of bytes, one after another, the most significant of each first.
 abbrev pub bits_of_bytes : List ℕ → List ℕ
-bits_of_bytes [] = []
-bits_of_bytes (b ∷ bs) = bits_of 8 b ++ bits_of_bytes bs
+bits_of_bytes bytes = flat_map (bits_of 8) bytes
 
 -- The law of the running value: it is the remainder of the bytes, with the value that they were taken at in front.
 abbrev pub Divides : ℕ → List ℕ → ℕ → Type 0

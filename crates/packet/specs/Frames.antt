@@ -1,5 +1,5 @@
 -- What a frame is: sound as a symbol, sound as a packet, or unsound with a cause.
-use Rattle.std.specs.Prelude.{◌≡◌, ℕ, cond, List, [], ◌∷◌, length, Ok, Err, Result, ◌==◌, ◌≢◌}
+use Rattle.std.specs.Prelude.{◌≡◌, ℕ, if◌then◌else◌, List, [], ◌∷◌, length, Ok, Err, Result, ◌==◌, ◌≢◌}
 use Rattle.refusal.specs.declared.Refusal.{Refusal}
 use Rattle.symbol.specs.declared.Symbol.{Symbol as Fields}
 use Rattle.symbol.specs.declared.codes.Cause.{Cause}
@@ -14,12 +14,12 @@ use Rattle.packet.specs.Soundness.{packet_length, sound_of, Sound}
 
 -- Why a frame of n bytes is unsound, where it is: its symbol's check, its packet's check, or a length that neither has.
 abbrev pub cause_at : ℕ → Cause
-cause_at n = cond (n == 3) SymbolCheck (cond (packet_length n) PacketCheck InvalidCharacter)
+cause_at n = if n == 3 then SymbolCheck else (if packet_length n then PacketCheck else InvalidCharacter)
 
 -- A frame that was read as a symbol is one; any other is a sound packet or unsound.
 abbrev pub kind_after : List ℕ → Result Fields Refusal → Kind
 kind_after frame (Ok symbol) = Symbol symbol
-kind_after frame (Err e) = cond (sound_of frame) Packet (Unsound (cause_at (length frame)))
+kind_after frame (Err e) = if sound_of frame then Packet else Unsound (cause_at (length frame))
 
 -- What a frame is.
 unfoldable pub kind_of : List ℕ → Kind

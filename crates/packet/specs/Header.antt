@@ -1,6 +1,7 @@
 -- The first two bytes of a packet. Byte 0 holds the ackID (five bits), two reserved bits and the CRF bit;
 -- byte 1 holds the priority (two bits), tt (two) and ftype (four).
-use Rattle.std.specs.Prelude.{◌≡◌, ℕ, ◌+◌, ◌*◌, ◌/◌, ◌%◌, ◌<◌, ◌≤◌, List, [], ◌∷◌, length, Some, None, Ok, Err, Option, Result}
+use Rattle.std.specs.Prelude.{◌≡◌, ℕ, ◌+◌, ◌*◌, ◌/◌, ◌%◌, ◌<◌, ◌≤◌, List, [], ◌∷◌, length, Some, Ok, Err, Option, Result, slice_get}
+use Rattle.std.specs.Option.{option_map}
 use Rattle.refusal.specs.declared.Refusal.{Refusal}
 use Rattle.refusal.specs.declared.Refusal.TheVariants.{WideField}
 use Rattle.packet.specs.Crc.{cleared_of}
@@ -8,8 +9,7 @@ use Rattle.packet.specs.Soundness.{sound_of}
 
 -- The ackID, where there is a byte that holds it.
 abbrev pub ack_id_of : List ℕ → Option ℕ
-ack_id_of [] = None
-ack_id_of (b ∷ bs) = Some (b / 8)
+ack_id_of packet = option_map (λ b. b / 8) (slice_get packet 0)
 
 -- The packet with its first five bits set to an ackID.
 abbrev pub stamped_of : ℕ → List ℕ → List ℕ
@@ -20,23 +20,17 @@ stamped_of k (b ∷ bs) = (k * 8 + b % 8) ∷ bs
 abbrev pub unstamped_of : List ℕ → List ℕ
 unstamped_of packet = stamped_of 0 packet
 
--- A field of byte 1, where there is such a byte.
-abbrev pub in_byte1 : (ℕ → ℕ) → List ℕ → Option ℕ
-in_byte1 field [] = None
-in_byte1 field (a ∷ []) = None
-in_byte1 field (a ∷ b ∷ bs) = Some (field b)
-
--- The priority: its first two bits.
+-- The priority: the first two bits of byte 1, where there is such a byte.
 abbrev pub priority_of : List ℕ → Option ℕ
-priority_of packet = in_byte1 (λ b. b / 64) packet
+priority_of packet = option_map (λ b. b / 64) (slice_get packet 1)
 
 -- The tt field: the next two.
 abbrev pub tt_of : List ℕ → Option ℕ
-tt_of packet = in_byte1 (λ b. b / 16 % 4) packet
+tt_of packet = option_map (λ b. b / 16 % 4) (slice_get packet 1)
 
 -- The format type: its last four.
 abbrev pub ftype_of : List ℕ → Option ℕ
-ftype_of packet = in_byte1 (λ b. b % 16) packet
+ftype_of packet = option_map (λ b. b % 16) (slice_get packet 1)
 
 -- What stamping answers, and leaves of the packet `before`: an ackID has five bits.
 abbrev pub Stamps : ℕ → List ℕ → Result (Unit {0}) Refusal → List ℕ → Type 0

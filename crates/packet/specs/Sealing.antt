@@ -1,5 +1,6 @@
 -- What sealing makes of a load.
-use Rattle.std.specs.Prelude.{◌≡◌, ℕ, ◌+◌, ◌*◌, ◌/◌, ◌%◌, ◌<◌, ◌≤◌, cond, ◌⊎◌, List, [], ◌∷◌, ◌++◌, length, take, drop, Ok, Err, Result, ◌==◌, nat_le}
+use Rattle.std.specs.Prelude.{◌≡◌, ℕ, ◌+◌, ◌%◌, ◌<◌, ◌≤◌, if◌then◌else◌, ◌⊎◌, List, [], ◌∷◌, ◌++◌, length, take, drop, Ok, Err, Result, ◌==◌, nat_le}
+use Rattle.std.specs.Int.{next_multiple_of}
 use Rattle.refusal.specs.declared.Refusal.{Refusal}
 use Rattle.refusal.specs.declared.Refusal.TheVariants.{LoadLength, ShortBuffer}
 use Rattle.packet.specs.Crc.{cleared_of, run_of, bytes_of}
@@ -15,11 +16,15 @@ with_crc bytes = bytes ++ bytes_of (run_of bytes)
 -- At most 80 bytes have one CRC after them. More have one after the first 80 and one at the end,
 -- which goes on from the first and covers it.
 abbrev pub checked_of : List ℕ → List ℕ
-checked_of bytes = cond (nat_le (length bytes) 80) (with_crc bytes) (with_crc (with_crc (take 80 bytes) ++ drop 80 bytes))
+checked_of bytes = if nat_le (length bytes) 80 then with_crc bytes else with_crc (with_crc (take 80 bytes) ++ drop 80 bytes)
 
 -- What pads n bytes: two zero bytes, where n is not a multiple of 4.
 abbrev pub pad_of : ℕ → List ℕ
-pad_of n = cond (n % 4 == 0) [] (0 ∷ 0 ∷ [])
+pad_of n = if n % 4 == 0 then [] else 0 ∷ 0 ∷ []
+
+-- A buffer with bytes written over its front.
+abbrev pub written_over : List ℕ → List ℕ → List ℕ
+written_over bytes buffer = bytes ++ drop (length bytes) buffer
 
 -- The packet that a load is sealed to.
 unfoldable pub sealed_of : List ℕ → List ℕ
@@ -31,10 +36,10 @@ SealedTo n m = (load : List ℕ) → length load ≡ n → length (sealed_of loa
 
 -- The rule for that: load and CRC, two bytes or twice two, up to a multiple of 4.
 abbrev pub crc_length : ℕ → ℕ
-crc_length n = cond (nat_le n 80) 2 4
+crc_length n = if nat_le n 80 then 2 else 4
 
 abbrev pub sealed_length : ℕ → ℕ
-sealed_length n = (n + crc_length n + 3) / 4 * 4
+sealed_length n = next_multiple_of (n + crc_length n) 4
 
 -- It holds of a load that can be sealed.
 abbrev pub SealsToLength : List ℕ → Type 0

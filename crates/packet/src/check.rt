@@ -12,11 +12,12 @@ const COVERED: usize = FIRST + 2;
 pub fn is_packet_length(n: usize) -> bool
     ensures { result ≡ packet_length n }
 {
-    n % 4 == 0 && n >= 8 && n <= LONGEST
+    n % 4 == 0 && (8..=LONGEST).contains(&n)
 }
 
 // Whether a packet is sound. Above 84 bytes the running value is to be zero after the first CRC,
 // and goes on over the rest.
+#[tactic(auto, unfolding(crate::specs::Soundness::sound_of))]
 pub fn is_sound(packet: &[u8]) -> bool
     ensures { result ≡ sound_of packet.now }
 {

@@ -53,11 +53,7 @@ pub fn run(value: u16, bytes: &[u8]) -> u16
     ensures value { result ≡ crc_of value bytes.now }
     ensures divides { Divides value bytes.now result }
 {
-    let mut running = value;
-    for b in bytes {
-        running = step(running, *b);
-    }
-    running
+    bytes.iter().fold(value, |running, b| step(running, *b))
 }
 
 // The running value over a packet from its first byte on, whose first six bits count as zero.
@@ -66,6 +62,7 @@ pub fn start(bytes: &[u8]) -> u16
     ensures divides { Divides 0xFFFF (cleared_of bytes.now) result }
 {
     let mut running = 0xFFFF;
+    // a rule of this project: the packet CRC loops over the elements of its slice, with their index
     for (i, b) in bytes.iter().enumerate() {
         let covered = if i == 0 { *b & 0b11 } else { *b };
         running = step(running, covered);

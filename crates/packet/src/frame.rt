@@ -28,19 +28,15 @@ pub fn cause_at(n: usize) -> Cause
 }
 
 // What a frame is.
+#[tactic(auto, unfolding(crate::specs::Frames::kind_of))]
 pub fn classify(frame: &[u8]) -> Kind
     ensures value { result ≡ kind_of frame.now }
     ensures means { Is frame.now result }
 {
     match Symbol::read(frame) {
         Ok(symbol) => Kind::Symbol(symbol),
-        Err(_) => {
-            if check::is_sound(frame) {
-                Kind::Packet
-            } else {
-                Kind::Unsound(cause_at(frame.len()))
-            }
-        }
+        Err(_) if check::is_sound(frame) => Kind::Packet,
+        Err(_) => Kind::Unsound(cause_at(frame.len())),
     }
 }
 

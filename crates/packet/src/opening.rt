@@ -1,5 +1,5 @@
 // Opening: the load of a sound packet, as parts of it.
-ghost use Rattle.std.specs.Prelude.{◌≡◌, ◌+◌, ◌-◌, ◌*◌, ◌/◌, ◌%◌, ◌<◌, ◌≤◌, T, length};
+ghost use Rattle.std.specs.Prelude.{◌≡◌, ◌+◌, ◌-◌, ◌*◌, ◌/◌, ◌%◌, ◌<◌, ◌≤◌, ◌↔◌, IsTrue, length};
 ghost use Rattle.packet.specs.Opening.{SealsTo, Opens, GivesBack};
 ghost use Rattle.packet.specs.Sealing.{Sealable, sealed_length};
 
@@ -20,14 +20,13 @@ fn sealed_length(n: usize) -> usize
     ensures { result ≡ sealed_length n }
 {
     let crc = if n <= FIRST { 2 } else { 4 };
-    (n + crc + 3) / 4 * 4
+    (n + crc).next_multiple_of(4)
 }
 
 // Whether a load of n bytes can be sealed, and is sealed to a packet of m.
 pub fn seals_to(n: usize, m: usize) -> bool
-    ensures yes { T result → SealsTo n m }
-    ensures no { SealsTo n m → T result }
-    ensures rule { T result → sealed_length n ≡ m }
+    ensures means { IsTrue result ↔ (SealsTo n m) }
+    ensures rule { IsTrue result → sealed_length n ≡ m }
 {
     sealing::is_sealable(n) && sealed_length(n) == m
 }

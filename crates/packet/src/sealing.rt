@@ -1,8 +1,8 @@
 // Sealing: a load with its CRC, or its two, and padding up to a multiple of 4, written to the front of a buffer.
-ghost use Rattle.std.specs.Prelude.{◌≡◌, ◌+◌, ◌-◌, ◌*◌, ◌/◌, ◌%◌, ◌<◌, ◌≤◌, T, [], ◌∷◌, ◌++◌, length, take, drop};
+ghost use Rattle.std.specs.Prelude.{◌≡◌, ◌+◌, ◌-◌, ◌*◌, ◌/◌, ◌%◌, ◌<◌, ◌≤◌, ◌↔◌, IsTrue, [], ◌∷◌, ◌++◌, length, take, drop};
 ghost use Rattle.packet.specs.Crc.{cleared_of, bytes_of};
 ghost use Rattle.packet.specs.Opening.{SealsLoad};
-ghost use Rattle.packet.specs.Sealing.{Sealable, with_crc, checked_of, pad_of, Seals, SealsToLength};
+ghost use Rattle.packet.specs.Sealing.{Sealable, with_crc, checked_of, written_over, Seals, SealsToLength};
 ghost use Rattle.packet.specs.Soundness.{SealsSound};
 
 use super::{crc, header};
@@ -16,53 +16,30 @@ pub const LONGEST: usize = 276;
 
 // Whether a load may have n bytes: an even number from 6 to 272.
 pub fn is_sealable(n: usize) -> bool
-    ensures yes { T result → Sealable n }
-    ensures no { Sealable n → T result }
+    ensures { IsTrue result ↔ (Sealable n) }
 {
-    n % 2 == 0 && n >= 6 && n <= 272
+    n % 2 == 0 && (6..=272).contains(&n)
 }
 
-// Copies bytes to the place `at` in the buffer.
-fn copy_to(buffer: &mut [u8], at: usize, bytes: &[u8])
-    requires { at + length bytes.now ≤ length buffer.old }
-    ensures { buffer.new ≡ take at buffer.old ++ (bytes.now ++ drop (at + length bytes.now) buffer.old) }
+// Writes bytes and then their CRC to the front of the buffer, and answers where they end.
+fn put(buffer: &mut [u8], bytes: &[u8], crc: u16) -> usize
+    requires { length bytes.now + 2 ≤ length buffer.old }
+    ensures written { buffer.new ≡ written_over (bytes.now ++ bytes_of crc) buffer.old }
+    ensures ends { result ≡ length bytes.now + 2 }
 {
-    let end = at + bytes.len();
-    buffer[at..end].copy_from_slice(bytes);
-}
-
-// Writes bytes and then their CRC from the place `at` on, and answers where they end.
-fn put(buffer: &mut [u8], at: usize, bytes: &[u8], crc: u16) -> usize
-    requires { at + length bytes.now + 2 ≤ length buffer.old }
-    ensures written { buffer.new ≡ take at buffer.old ++ ((bytes.now ++ bytes_of crc) ++ drop (at + length bytes.now + 2) buffer.old) }
-    ensures ends { result ≡ at + length bytes.now + 2 }
-{
-    let end = at + bytes.len();
-    copy_to(buffer, at, bytes);
-    copy_to(buffer, end, &[(crc >> 8) as u8, (crc & 0xFF) as u8]);
+    let end = bytes.len();
+    buffer[0..end].copy_from_slice(bytes);
+    buffer[end..end + 2].copy_from_slice(&crc.to_be_bytes());
     end + 2
-}
-
-// Pads what ends at `at` with zero bytes up to a multiple of 4, and answers where that ends.
-fn pad(buffer: &mut [u8], at: usize) -> usize
-    requires { at + length (pad_of at) ≤ length buffer.old }
-    ensures written { buffer.new ≡ take at buffer.old ++ (pad_of at ++ drop (at + length (pad_of at)) buffer.old) }
-    ensures ends { result ≡ at + length (pad_of at) }
-{
-    if at % 4 == 0 {
-        return at;
-    }
-    copy_to(buffer, at, &[0, 0]);
-    at + 2
 }
 
 // Writes a packet's first bytes, their first six bits set to zero, and their CRC to the front of the buffer.
 fn put_first(buffer: &mut [u8], bytes: &[u8]) -> usize
     requires { (0 < length bytes.now) × (length bytes.now + 2 ≤ length buffer.old) }
-    ensures written { buffer.new ≡ with_crc (cleared_of bytes.now) ++ drop result buffer.old }
+    ensures written { buffer.new ≡ written_over (with_crc (cleared_of bytes.now)) buffer.old }
     ensures ends { result ≡ length bytes.now + 2 }
 {
-    let end = put(buffer, 0, bytes, crc::start(bytes));
+    let end = put(buffer, bytes, crc::start(bytes));
     header::clear(buffer);
     end
 }
@@ -70,7 +47,7 @@ fn put_first(buffer: &mut [u8], bytes: &[u8]) -> usize
 // Writes a load with its CRC, or above 80 bytes with its two, to the front of the buffer.
 fn put_checked(buffer: &mut [u8], load: &[u8]) -> usize
     requires { (0 < length load.now) × (length load.now + 4 ≤ length buffer.old) }
-    ensures written { buffer.new ≡ checked_of (cleared_of load.now) ++ drop result buffer.old }
+    ensures written { buffer.new ≡ written_over (checked_of (cleared_of load.now)) buffer.old }
     ensures ends { result ≡ length (checked_of (cleared_of load.now)) }
 {
     let n = load.len();
@@ -80,12 +57,13 @@ fn put_checked(buffer: &mut [u8], load: &[u8]) -> usize
     let end = put_first(buffer, &load[0..FIRST]);
     // its CRC brings the running value to zero
     let rest = &load[FIRST..n];
-    put(buffer, end, rest, crc::run(0, rest))
+    end + put(&mut buffer[end..], rest, crc::run(0, rest))
 }
 
 // Seals a load: writes its packet to the front of the buffer, answers the packet's length, and leaves the bytes behind.
 // Refused with 1 where the load's length is odd, below 6 or above 272, and then with 6 where the buffer
 // has fewer than 276 bytes.
+#[tactic(auto, using(crate::proofs::Sealed::sealing_laws))]
 pub fn seal(load: &[u8], buffer: &mut [u8]) -> Result<usize, Refusal>
     ensures value { Seals load.now buffer.old result buffer.new }
     ensures length { SealsToLength load.now }
@@ -99,5 +77,7 @@ pub fn seal(load: &[u8], buffer: &mut [u8]) -> Result<usize, Refusal>
         return Err(Refusal::ShortBuffer);
     }
     let end = put_checked(buffer, load);
-    Ok(pad(buffer, end))
+    let padded = end.next_multiple_of(4);
+    buffer[end..padded].fill(0);
+    Ok(padded)
 }

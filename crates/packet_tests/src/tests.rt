@@ -9,10 +9,8 @@ use std::test::Fail;
 
 // Fills a load with bytes that are not all alike.
 fn fill(load: &mut [u8]) {
-    let mut next: u8 = 0xA7;
-    for b in load.iter_mut() {
-        *b = next;
-        next = next.wrapping_add(37);
+    for (i, b) in load.iter_mut().enumerate() {
+        *b = ((0xA7 + i % 256 * 37) % 256) as u8;
     }
 }
 
@@ -22,13 +20,14 @@ fn sound_when_turned(packet: &mut [u8], bit: usize) -> bool
 {
     let place = bit / 8;
     let mask = 0x80u8 >> (bit % 8);
-    packet[place] = packet[place] ^ mask;
+    packet[place] ^= mask;
     let sound = is_sound(packet);
-    packet[place] = packet[place] ^ mask;
+    packet[place] ^= mask;
     sound
 }
 
-// A turned bit is found, unless it is one of the first six.
+// A turned bit is found, unless it is one of the first six. The bits go by number: while one is turned the whole packet is
+// looked at, so no iterator over its bytes can lend it.
 fn turned_bits(rt: &impl Abort, packet: &mut [u8])
     requires { length packet.old ≤ 276 }
 {

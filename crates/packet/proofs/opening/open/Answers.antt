@@ -1,7 +1,7 @@
-use Rattle.std.proofs.Common.{◌≡◌, ℕ, ◌+◌, ◌-◌, min, List, ◌++◌, length, take, drop, sym, refl, ap, ◌∙◌, subst, inl, inr, arith}
+use Rattle.std.proofs.Common.{◌≡◌, ℕ, ◌+◌, ◌-◌, List, ◌++◌, length, take, drop, sym, refl, ap, ◌∙◌, subst, arith}
 use Rattle.std.proofs.lemmas.List.{length-take, drop_all}
 use Rattle.std.proofs.lemmas.Slice.{between_is}
-use Rattle.std.proofs.lemmas.Bool.{both_ways}
+use Rattle.std.proofs.lemmas.Bool.{both_ways, false≢true}
 use Rattle.packet.specs.Crc.{cleared_of}
 use Rattle.packet.specs.Opening.{SealsTo, first_of, rest_of}
 use Rattle.packet.specs.Sealing.{Sealable, sealed_of}
@@ -25,30 +25,21 @@ back : (packet first rest load : List ℕ) (n : ℕ) → first ≡ first_of n pa
 back packet first rest load n f r size e =
     (λ i. f i ++ r i) ∙ (let k = sym size in λ i. first_of (k i) (e i) ++ rest_of (k i) (e i)) ∙ sealed_load load
 
-pub returns-then-not-seals_to : goal.returns-then-not-seals_to
-returns-then-not-seals_to c =
-    let never : SealsTo c.args.n (length c.args.packet.now) → ⊥ = c.if-not-seals_to.ensures.no in
-    record { value = inl (refl, never); gives_back = λ load size h e. never (seals c.args.packet.now load c.args.n size h e) }
+pub returns-then-not-seals_to-clause-gives_back : goal.returns-then-not-seals_to-clause-gives_back
+returns-then-not-seals_to-clause-gives_back c = λ load size h e. false≢true (c.if-not-seals_to.ensures.means.1 (seals c.args.packet.now load c.args.n size h e))
 
-pub returns-then-not-is_sound : goal.returns-then-not-is_sound
-returns-then-not-is_sound c =
-    let p = c.args.packet.now in
-    let never : Sound p → ⊥ = both_ways (sound_of p) (sym c.if-not-is_sound.ensures) in
-    record {
-      value = inr (refl, c.if-not-seals_to.ensures.yes tt, never);
-      gives_back = λ load size h e. never (sound p load c.args.n size h e);
-    }
+pub returns-then-not-is_sound-clause-gives_back : goal.returns-then-not-is_sound-clause-gives_back
+returns-then-not-is_sound-clause-gives_back c = λ load size h e. both_ways (sound_of c.args.packet.now) (sym c.if-not-is_sound.ensures) (sound c.args.packet.now load c.args.n size h e)
 
 pub returns-then-n-le-FIRST : goal.returns-then-n-le-FIRST
 returns-then-n-le-FIRST c =
     let p = c.args.packet.now in
     let n = c.args.n in
-    let few : n - 0 ≡ min n 80 = omega arith in
-    let first : take (n - 0) p ≡ first_of n p = ap (λ k. take k p) few in
+    let first : take (n - 0) p ≡ first_of n p = grind arith in
     let none : n - n ≡ 0 = omega arith in
     let rest : take (n - n) (drop n p) ≡ rest_of n p = ap (λ k. take k (drop n p)) none ∙ sym (drop_all 82 (take (n + 2) p) (simp length-take (omega arith))) in
     record {
-      value = (c.if-not-seals_to.ensures.yes tt, sym c.if-not-is_sound.ensures, first, rest);
+      value = (c.if-not-seals_to.ensures.means.0 refl, sym c.if-not-is_sound.ensures, first, rest);
       gives_back = λ load size e. back p (take (n - 0) p) (take (n - n) (drop n p)) load n first rest size e;
     }
 
@@ -56,10 +47,9 @@ pub returns : goal.returns
 returns c =
     let p = c.args.packet.now in
     let n = c.args.n in
-    let many : 80 ≡ min n 80 = omega arith in
-    let first : take 80 p ≡ first_of n p = ap (λ k. take k p) many in
+    let first : take 80 p ≡ first_of n p = grind arith in
     let rest : take (n + 2 - 82) (drop 82 p) ≡ rest_of n p = between_is p 82 (n + 2) in
     record {
-      value = (c.if-not-seals_to.ensures.yes tt, sym c.if-not-is_sound.ensures, first, rest);
+      value = (c.if-not-seals_to.ensures.means.0 refl, sym c.if-not-is_sound.ensures, first, rest);
       gives_back = λ load size e. back p (take 80 p) (take (n + 2 - 82) (drop 82 p)) load n first rest size e;
     }

@@ -1,20 +1,19 @@
-use Rattle.std.proofs.Common.{◌≡◌, ◌+◌, ◌-◌, ◌<◌, ◌++◌, length, take, drop, sym, ap, ◌∙◌, arith}
-use Rattle.std.proofs.lemmas.List.{length-append, length-take, length-drop, take_rest}
+use Rattle.std.proofs.Common.{◌≡◌, ◌+◌, ◌-◌, ◌++◌, length, take, drop, sym, ap, ◌∙◌, append-nil, arith}
+use Rattle.std.proofs.lemmas.List.{length-append, length-drop, take_rest, drop_all}
 use Rattle.packet.specs.Crc.{crc_of, cleared_of, bytes_of}
-use Rattle.packet.specs.Sealing.{with_crc}
+use Rattle.packet.specs.Sealing.{with_crc, written_over}
 use Rattle.packet.proofs.Cleared.{length_cleared}
 use Rattle.packet.proofs.Sealed.{length_crc, checked_short, long_parts}
-use Rattle.packet.proofs.Written.{appended}
+use Rattle.packet.proofs.Written.{written_behind}
 use Rattle.packet.proofs.sealing.put_checked.Goals as goal
 
 pub returns-then-n-le-FIRST : goal.returns-then-n-le-FIRST
 returns-then-n-le-FIRST c =
-    let load = c.args.load.now in
-    let bs = cleared_of load in
-    let n = length_cleared load in
+    let bs = cleared_of c.args.load.now in
+    let n = length_cleared c.args.load.now in
     let short = sym (checked_short bs (omega arith)) in
     record {
-      written = c.put_first.ensures.written ∙ ap (λ l. l ++ drop c.put_first.result c.args.buffer.now) short;
+      written = c.put_first.ensures.written ∙ ap (λ l. written_over l c.args.buffer.now) short;
       ends = c.put_first.ensures.ends ∙ ap (λ k. k + 2) (sym n) ∙ sym (length_crc bs) ∙ ap length short;
     }
 
@@ -22,27 +21,21 @@ pub returns : goal.returns
 returns c =
     let load = c.args.load.now in
     let before = c.args.buffer.now in
-    let n : 80 < length load = omega arith in
-    let m = length_cleared load in
-    let v = c.run.result in
-    let rest : take (length load - 80) (drop 80 load) ≡ drop 80 load = take_rest load 80 in
-    let eighty : length (take 80 load) ≡ 80 = simp length-take (omega arith) in
-    let end : c.put_first-end.result ≡ 82 = c.put_first-end.ensures.ends ∙ ap (λ k. k + 2) eighty in
-    let front = with_crc (cleared_of (take 80 load)) in
     let first = c.put_first-end.new.buffer in
-    let in_front : first ≡ front ++ drop 82 before = c.put_first-end.ensures.written ∙ ap (λ k. front ++ drop k before) end in
+    let at = c.put_first-end.result in
+    let v = c.run.result in
+    let front = with_crc (cleared_of (take 80 load)) in
     let part = drop 80 load ++ bytes_of v in
-    let long : length part ≡ length load - 80 + 2 = length-append (drop 80 load) (bytes_of v) ∙ ap (λ k. k + 2) (length-drop 80 load) in
-    let size : length front ≡ 82 = length_crc (cleared_of (take 80 load)) ∙ ap (λ k. k + 2) (length_cleared (take 80 load) ∙ eighty) in
-    let done : c.put.result ≡ 82 + length part = c.put.ensures.ends ∙ (λ i. end i + length (rest i) + 2) ∙ (let k = length-drop 80 load in omega arith) in
-    let parts = long_parts load v n (c.run.ensures.value ∙ ap (crc_of 0) rest) in
-    let value : c.put.new.buffer ≡ take 82 first ++ (part ++ drop c.put.result first) =
-    (let ends = sym c.put.ensures.ends in c.put.ensures.written ∙ (λ i. take (end i) first ++ ((rest i ++ bytes_of v) ++ drop (ends i) first))) in
+    let rest = take_rest load 80 in
+    let end : at ≡ length front = c.put_first-end.ensures.ends ∙ ap (λ k. k + 2) (sym (length_cleared (take 80 load))) ∙ sym (length_crc (cleared_of (take 80 load))) in
+    let parts = long_parts load v (omega arith) (c.run.ensures.value ∙ ap (crc_of 0) rest) in
+    let written = c.put.ensures.written ∙ (λ i. written_over (rest i ++ bytes_of v) (take_rest first at i)) in
+    let none = drop_all (length first - at) (drop at first) (simp length-drop (omega arith)) in
     record {
       written =
-          value
-          ∙ ap (λ k. take 82 first ++ (part ++ drop k first)) done
-          ∙ appended front part before first 82 size in_front
-          ∙ (let ends = sym done in λ i. parts i ++ drop (ends i) before);
-      ends = done ∙ ap (λ k. k + length part) (sym size) ∙ sym (length-append front part) ∙ ap length parts;
+          (λ i. take at first ++ (written i ++ none i))
+          ∙ ap (λ l. take at first ++ l) (append-nil (written_over part (drop at first)))
+          ∙ written_behind front part before first at end c.put_first-end.ensures.written
+          ∙ ap (λ l. written_over l before) parts;
+      ends = (λ i. end i + (c.put.ensures.ends ∙ ap (λ l. length l + 2) rest ∙ sym (length-append (drop 80 load) (bytes_of v))) i) ∙ sym (length-append front part) ∙ ap length parts;
     }

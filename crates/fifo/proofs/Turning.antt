@@ -1,11 +1,11 @@
 -- What a write into a ring, a read, and some steps on do to its places as read from the head on.
-use Rattle.std.proofs.Common.{◌≡◌, ℕ, ◌+◌, ◌-◌, ◌<◌, ◌≤◌, List, [], ◌∷◌, ◌++◌, length, get_or, take, drop, set, Some, sym, ap, ◌∙◌, inl, inr, append_assoc, arith}
+use Rattle.std.specs.Prelude.{slice_index_or}
+use Rattle.std.proofs.Common.{◌≡◌, ℕ, ◌+◌, ◌-◌, ◌<◌, ◌≤◌, List, [], ◌∷◌, ◌++◌, length, take, drop, set, Some, sym, ap, ◌∙◌, inl, inr, append_assoc, arith}
 use lib.Seq.{take-set-lt}
 use Rattle.std.proofs.lemmas.Bool.{cases_lt}
 use Rattle.std.proofs.lemmas.List.{length-append, length-take, length-take-le, length-drop, length-set, take-append-le, take_more_set, take-set-le, drop-set-lt, drop-set-add, set-append_left, set-append_right, get_or_append_left, get_or-append_right, get_or-drop, get_or-take, drop-append-le, drop_at, drop_more, drop-drop, drop-take, take-append-drop, take-take, take_all, drop_all}
-use Rattle.fifo.specs.declared.Queue.{Queue}
 use Rattle.fifo.specs.Turned.{turned, At}
-use Rattle.fifo.specs.Held.{queued, places_of, oldest}
+use Rattle.fifo.specs.Held.{oldest}
 
 module _ {T : Type 0} where
   pub length_turned : (h : ℕ) (ps : List T) → length (turned h ps) ≡ length ps
@@ -42,16 +42,16 @@ module _ {T : Type 0} where
             cc
       ]
 
-  pub turned_get_or : (h k i : ℕ) (ps : List T) (d : T) → At h k (length ps) i → k < length ps → get_or (turned h ps) k d ≡ get_or ps i d
+  pub turned_get_or : (h k i : ℕ) (ps : List T) (d : T) → At h k (length ps) i → k < length ps → slice_index_or (turned h ps) k d ≡ slice_index_or ps i d
   turned_get_or h k i ps d at lt =
       elim (cases_lt h (length ps)) [
         | inl inside ↦ elim (cases_lt (h + k) (length ps)) [
-          | inl on ↦ get_or_append_left (drop h ps) (take h ps) d k (simp length-drop (omega arith)) ∙ get_or-drop h ps k d ∙ ap (λ j. get_or ps j d) (sym (at.0 on))
+          | inl on ↦ get_or_append_left (drop h ps) (take h ps) d k (simp length-drop (omega arith)) ∙ get_or-drop h ps k d ∙ ap (λ j. slice_index_or ps j d) (sym (at.0 on))
           | inr past ↦
               let is : k - (length ps - h) ≡ i = omega (arith, at.1 inside past) in
-              get_or-append_right (drop h ps) (take h ps) (length ps - h) k d (length-drop h ps) (omega arith) ∙ get_or-take h ps (k - (length ps - h)) d (omega arith) ∙ ap (λ j. get_or ps j d) is
+              get_or-append_right (drop h ps) (take h ps) (length ps - h) k d (length-drop h ps) (omega arith) ∙ get_or-take h ps (k - (length ps - h)) d (omega arith) ∙ ap (λ j. slice_index_or ps j d) is
         ]
-        | inr out ↦ ap (λ l. get_or l k d) (turned_past h ps out) ∙ ap (λ j. get_or ps j d) (sym (at.2 out))
+        | inr out ↦ ap (λ l. slice_index_or l k d) (turned_past h ps out) ∙ ap (λ j. slice_index_or ps j d) (sym (at.2 out))
       ]
 
   drop_past : (n k : ℕ) (xs ys : List T) → length xs ≡ k → k ≤ n → drop n (xs ++ ys) ≡ drop (n - k) ys
@@ -106,29 +106,29 @@ module _ {T : Type 0} where
       let e : d + (n - d) ≡ n = omega arith in
       turned_on h d i (n - d) ps at (omega arith) ∙ sym (drop-take d (n - d) (turned h ps)) ∙ ap (λ j. drop d (take j (turned h ps))) e
 
-  pub ring_get_or : (h n k i : ℕ) (ps : List T) (d : T) → At h k (length ps) i → k < n → n ≤ length ps → get_or (take n (turned h ps)) k d ≡ get_or ps i d
+  pub ring_get_or : (h n k i : ℕ) (ps : List T) (d : T) → At h k (length ps) i → k < n → n ≤ length ps → slice_index_or (take n (turned h ps)) k d ≡ slice_index_or ps i d
   ring_get_or h n k i ps d at kn le = get_or-take n (turned h ps) k d kn ∙ turned_get_or h k i ps d at (omega arith)
 
   -- the oldest, and the rest
-  pub ring_take : (h n i j : ℕ) (ps : List T) (d : T) → At h 0 (length ps) i → At h 1 (length ps) j → 0 < n → n ≤ length ps → take n (turned h ps) ≡ get_or ps i d ∷ take (n - 1) (turned j ps)
+  pub ring_take : (h n i j : ℕ) (ps : List T) (d : T) → At h 0 (length ps) i → At h 1 (length ps) j → 0 < n → n ≤ length ps → take n (turned h ps) ≡ slice_index_or ps i d ∷ take (n - 1) (turned j ps)
   ring_take h n i j ps d at0 at1 pos le =
       let ring = take n (turned h ps) in
       let long = length_ring h n ps le in
-      let a : ring ≡ get_or ring 0 d ∷ drop (0 + 1) ring = drop_more ring 0 d (omega arith) in
-      let b : get_or ring 0 d ≡ get_or ps i d = ring_get_or h n 0 i ps d at0 pos le in
+      let a : ring ≡ slice_index_or ring 0 d ∷ drop (0 + 1) ring = drop_more ring 0 d (omega arith) in
+      let b : slice_index_or ring 0 d ≡ slice_index_or ps i d = ring_get_or h n 0 i ps d at0 pos le in
       let e : take (n - 1) (turned j ps) ≡ drop 1 ring = ring_drop h 1 j n ps at1 pos le in
       cc
 
   -- what comes k after the oldest of what is held, of which there may be said to be more than there are places
-  pub ring_nth : (h n k i : ℕ) (ps : List T) (d : T) → At h k (length ps) i → k < length (take n (turned h ps)) → oldest (drop k (take n (turned h ps))) ≡ Some (get_or ps i d)
+  pub ring_nth : (h n k i : ℕ) (ps : List T) (d : T) → At h k (length ps) i → k < length (take n (turned h ps)) → oldest (drop k (take n (turned h ps))) ≡ Some (slice_index_or ps i d)
   ring_nth h n k i ps d at lt =
       let ring = take n (turned h ps) in
       let long = length_turned h ps in
       let some : k < n = omega (arith, length-take n (turned h ps)) in
       let places : k < length ps = omega (arith, length-take n (turned h ps)) in
-      let a : drop k ring ≡ get_or ring k d ∷ drop (k + 1) ring = drop_more ring k d lt in
-      let b : get_or ring k d ≡ get_or ps i d = get_or-take n (turned h ps) k d some ∙ turned_get_or h k i ps d at places in
-      let e : oldest (drop k ring) ≡ Some (get_or ring k d) = ap oldest a in
+      let a : drop k ring ≡ slice_index_or ring k d ∷ drop (k + 1) ring = drop_more ring k d lt in
+      let b : slice_index_or ring k d ≡ slice_index_or ps i d = get_or-take n (turned h ps) k d some ∙ turned_get_or h k i ps d at places in
+      let e : oldest (drop k ring) ≡ Some (slice_index_or ring k d) = ap oldest a in
       cc
 
   pub take_least : (m : ℕ) (xs : List T) → take (length (take m xs)) xs ≡ take m xs
@@ -140,9 +140,3 @@ module _ {T : Type 0} where
             let b : take (length xs) xs ≡ xs = take_all (length xs) xs (omega arith) in
             cc
       ]
-
-  -- a queue holds no more than its places
-  pub queued_most : (q : Queue T) → length (queued q) ≤ places_of q
-  queued_most q =
-      let long = length_turned q.head q.places.now in
-      rw length-take (omega arith)

@@ -3,22 +3,26 @@
 // Putting adds at the end, taking gives the oldest, and a refused call changes nothing. No call asks anything of its caller.
 #![tactic(auto)]
 
+pub mod iter;
 pub mod ring;
 #[cfg(test)]
 mod tests;
 
-ghost use Rattle.std.specs.Prelude.{◌≡◌, ◌<◌, ◌≤◌, [], length, drop, OnErr};
-ghost use Rattle.fifo.specs.Turned.{At};
-ghost use Rattle.fifo.specs.Held.{queued, places_of, oldest, Puts, Takes};
+ghost use Rattle.std.specs.Prelude.{◌≡◌, ◌≤◌, [], ◌∷◌, length, drop, OnErr, MatchOption};
+ghost use Rattle.std.specs.Iterator.{YieldsFirst};
+ghost use Rattle.std.specs.Iterator.Runs.{YieldsInOrder};
+ghost use Rattle.fifo.specs.Held.{in_ring, queued, places_of, to_come, oldest, Puts, Takes};
 
+use crate::iter::Iter;
+use crate::ring::Ring;
 use refusal::Refusal;
 
-// Every value is a queue: a head past the places reads as 0, and a length past them as full.
+// The places lent, and the ring of those that hold elements. Every value is a queue. The memory is lent, since the library
+// allocates nothing; and clauses see the fields, since a refused call is to leave all of that memory as it was.
 #[derive(Drop)]
 pub struct Queue<'a, T> {
     places: &'a mut [T],
-    head: usize,
-    len: usize,
+    ring: Ring,
 }
 
 impl<'a, T: Copy> Queue<'a, T> {
@@ -29,8 +33,7 @@ impl<'a, T: Copy> Queue<'a, T> {
     {
         Queue {
             places,
-            head: 0,
-            len: 0,
+            ring: Ring { head: 0, len: 0 },
         }
     }
 
@@ -46,16 +49,18 @@ impl<'a, T: Copy> Queue<'a, T> {
         ensures value { result ≡ length (queued self.now) }
         ensures most { result ≤ places_of self.now }
     {
-        let n = self.places();
-        if self.len < n { self.len } else { n }
+        self.ring.len(self.places)
     }
 
-    // The place that comes k after the head.
-    fn place(&self, k: usize) -> usize
-        ensures at { At self.now.head k (places_of self.now) result }
-        ensures within { k < places_of self.now → result < places_of self.now }
+    // What it holds, the oldest first.
+    pub fn iter(&self) -> Iter<'_, T>
+        ensures holds { to_come result ≡ queued self.now }
+        ensures runs { YieldsInOrder (YieldsFirst {A = T} to_come) to_come }
     {
-        ring::place(self.head, k, self.places())
+        Iter {
+            ring: self.ring,
+            places: self.places,
+        }
     }
 
     // The oldest element, where there is one.
@@ -69,12 +74,14 @@ impl<'a, T: Copy> Queue<'a, T> {
     pub fn get(&self, k: usize) -> Option<T>
         ensures { result ≡ oldest (drop k (queued self.now)) }
     {
-        if k >= self.len() {
-            return None;
-        }
-        let i = self.place(k);
-        let places: &[T] = self.places;
-        Some(places[i])
+        self.ring.get(self.places, k)
+    }
+
+    // The oldest element and the ring of the others, where there is one.
+    fn split_first(&self) -> Option<(T, Ring)>
+        ensures { MatchOption result (queued self.now ≡ []) (λ split. queued self.now ≡ split.0 ∷ in_ring split.1 self.now.places.now) }
+    {
+        self.ring.split_first(self.places)
     }
 
     // Takes an element in, as the newest. Refused with 11 where every place is taken.
@@ -83,14 +90,7 @@ impl<'a, T: Copy> Queue<'a, T> {
         ensures places { places_of self.new ≡ places_of self.old }
         ensures refused { OnErr result (self.new ≡ self.old) }
     {
-        let len = self.len;
-        if len >= self.places() {
-            return Err(Refusal::QueueFull);
-        }
-        let i = self.place(len);
-        self.places[i] = x;
-        self.len = len + 1;
-        Ok(())
+        self.ring.put(self.places, x)
     }
 
     // Gives the oldest element and removes it. Refused with 4 where there is none.
@@ -99,14 +99,8 @@ impl<'a, T: Copy> Queue<'a, T> {
         ensures places { places_of self.new ≡ places_of self.old }
         ensures refused { OnErr result (self.new ≡ self.old) }
     {
-        let len = self.len();
-        if len == 0 {
-            return Err(Refusal::Nothing);
-        }
-        let i = self.place(0);
-        let x = self.places[i];
-        self.head = self.place(1);
-        self.len = len - 1;
+        let (x, ring) = self.split_first().ok_or(Refusal::Nothing)?;
+        self.ring = ring;
         Ok(x)
     }
 }

@@ -1,10 +1,19 @@
 // A queue of every size from 0 to 9 is filled, goes round its places three times and more, and is emptied.
-ghost use Rattle.std.specs.Prelude.{◌≤◌};
+ghost use Rattle.std.specs.Prelude.{◌≡◌, ◌≤◌, ◌↔◌, IsTrue};
+ghost use Rattle.std.specs.List.{Any};
+ghost use Rattle.fifo.specs.Held.{queued};
 
 use crate::Queue;
 use refusal::Refusal;
 use std::process::Abort;
 use std::test::Fail;
+
+// Whether a number is held.
+fn holds(queue: &Queue<u8>, n: u8) -> bool
+    ensures { IsTrue result ↔ Any (λ x. x ≡ n) (queued queue.now) }
+{
+    queue.iter().any(|x| x == n)
+}
 
 // Puts the numbers below n: one more is refused.
 fn fill(rt: &impl Abort, queue: &mut Queue<u8>, n: u8) -> Result<(), Fail> {
@@ -22,6 +31,9 @@ fn go_round(rt: &impl Abort, queue: &mut Queue<u8>, n: u8) -> Result<(), Fail>
 {
     for i in 0..30u8 {
         assert_eq!(rt; queue.peek(), Some(i));
+        assert!(rt; queue.iter().eq(i..i + n));
+        assert!(rt; holds(queue, i));
+        assert!(rt; !holds(queue, i + n));
         assert_eq!(rt; queue.take()?, i);
         queue.put(i + n)?;
     }
@@ -36,6 +48,7 @@ fn empty(rt: &impl Abort, queue: &mut Queue<u8>, n: u8) -> Result<(), Fail>
         assert_eq!(rt; queue.take()?, 30 + i);
     }
     assert_eq!(rt; queue.peek(), None);
+    assert_eq!(rt; queue.iter().count(), 0);
     assert_eq!(rt; queue.take(), Err(Refusal::Nothing));
     Ok(())
 }
@@ -44,7 +57,7 @@ fn empty(rt: &impl Abort, queue: &mut Queue<u8>, n: u8) -> Result<(), Fail>
 fn wraps_around_at_every_size(rt: HostRuntime) -> Result<(), Fail> {
     for n in 1..10u8 {
         let mut places = [0; 9];
-        let mut queue = Queue::new(&mut places[0..n as usize]);
+        let mut queue = Queue::new(&mut places[..n as usize]);
         assert_eq!(rt; queue.places(), n as usize);
         fill(&rt, &mut queue, n)?;
         go_round(&rt, &mut queue, n)?;

@@ -1,4 +1,3 @@
 pub mod Filled
 pub mod Planned
 pub mod Spoilt
-pub mod Fronts

@@ -2,4 +2,3 @@ pub mod Meaning
 pub mod Slots
 pub mod Plans
 pub mod Carrying
-pub mod Filled

@@ -1,5 +1,6 @@
 -- What a lane's calls do to the frames that wait in it.
 use Rattle.std.specs.Prelude.{◌≡◌, ℕ, ◌<◌, ◌≤◌, ◌⊎◌, List, [], ◌∷◌, ◌++◌, length, drop, Ok, Err, Result}
+use Rattle.std.specs.List.{All}
 use Rattle.refusal.specs.declared.Refusal.{Refusal}
 use Rattle.refusal.specs.declared.Refusal.TheVariants.{FrameLength, LaneFull, ShortBuffer, Nothing}
 use Rattle.packet.specs.Frames.{UnsoundFrame}
@@ -14,8 +15,7 @@ SizedFrame f = (1 ≤ length f) × (length f ≤ 276)
 
 -- Each of some frames does.
 abbrev pub SizedFrames : Frames → Type 0
-SizedFrames [] = Unit {0}
-SizedFrames (f ∷ fs) = SizedFrame f × SizedFrames fs
+SizedFrames = All SizedFrame
 
 -- What the frames w may become when f is put: they gain f, or one unsound frame, or nothing. The lane chooses.
 abbrev pub Gains : Frames → List ℕ → Frames → Type 0

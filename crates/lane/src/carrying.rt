@@ -7,9 +7,9 @@ use refusal::Refusal;
 
 // How many more frames can be put.
 pub fn room<L: Lane>(lane: &L) -> usize
-    ensures { length (L.Lane.waiting lane.now) + result ≡ L.Lane.limit }
+    ensures { length (L.Lane.waiting lane.now) + result ≡ L.Lane.LIMIT }
 {
-    L::limit_of() - lane.count()
+    L::LIMIT - lane.count()
 }
 
 // Takes the oldest frame of one lane to the front of a buffer, puts it to another lane, which may differ in kind, and answers its length.
@@ -19,7 +19,7 @@ pub fn carry<A: Lane, B: Lane>(
     to: &mut B,
     buffer: &mut [u8],
 ) -> Result<usize, Refusal>
-    ensures means { CarryMeans B.Lane.limit (A.Lane.waiting from.old) (B.Lane.waiting to.old) buffer.old result (A.Lane.waiting from.new) (B.Lane.waiting to.new) buffer.new }
+    ensures means { CarryMeans B.Lane.LIMIT (A.Lane.waiting from.old) (B.Lane.waiting to.old) buffer.old result (A.Lane.waiting from.new) (B.Lane.waiting to.new) buffer.new }
     ensures refused { OnErr result ((from.new ≡ from.old) × (to.new ≡ to.old)) }
 {
     if buffer.len() < FRAME {
@@ -32,6 +32,6 @@ pub fn carry<A: Lane, B: Lane>(
         return Err(Refusal::LaneFull);
     }
     let n = from.take(buffer)?;
-    to.put(&buffer[0..n])?;
+    to.put(&buffer[..n])?;
     Ok(n)
 }

@@ -4,8 +4,8 @@
 // `Steady` keeps every frame; `Noisy`, over any lane, does to each what its plan says.
 #![tactic(auto)]
 
+mod admitting;
 pub mod carrying;
-mod copying;
 pub mod noisy;
 pub mod steady;
 #[cfg(test)]
@@ -23,8 +23,8 @@ pub trait Lane {
     // The most frames that wait at once. A layer takes it from the lane below.
     const LIMIT: usize;
 
-    // The same number, as the clauses have it.
-    ghost limit: { ℕ };
+    // The same number, as the clauses have it: each lane's two are proved equal.
+    ghost LIMIT: { ℕ };
 
     // The frames that wait, the oldest first: this is what a lane means.
     ghost waiting: { Self → Frames };
@@ -34,17 +34,13 @@ pub trait Lane {
 
     ghost takes: { Self → Self → Type 0 };
 
-    // `LIMIT`, as a number that the clauses know.
-    fn limit_of() -> usize
-        ensures { result ≡ limit };
-
     // How many frames wait.
     fn count(&self) -> usize
         ensures { result ≡ length (waiting self.now) };
 
     // Gives the lane a frame. Refused with 7 where it has no byte or more than 276, then with 3 at the limit.
     fn put(&mut self, frame: &[u8]) -> Result<(), Refusal>
-        ensures means { PutMeans limit (waiting self.old) frame.now result (waiting self.new) }
+        ensures means { PutMeans LIMIT (waiting self.old) frame.now result (waiting self.new) }
         ensures kind { MatchResult result (λ _. puts self.old frame.now self.new) (λ _. self.new ≡ self.old) };
 
     // Takes the oldest frame to the front of a buffer and answers its length.
@@ -53,9 +49,9 @@ pub trait Lane {
         ensures means { TakeMeans (waiting self.old) buffer.old result (waiting self.new) buffer.new }
         ensures kind { MatchResult result (λ _. takes self.old self.new) (λ _. self.new ≡ self.old) };
 
-    ghost bounds: { (1 ≤ limit) × (limit ≤ 64) };
+    ghost bounds: { (1 ≤ LIMIT) × (LIMIT ≤ 64) };
 
-    ghost within: { (s : Self) → length (waiting s) ≤ limit };
+    ghost within: { (s : Self) → length (waiting s) ≤ LIMIT };
 
     ghost sized: { (s : Self) → SizedFrames (waiting s) };
 }

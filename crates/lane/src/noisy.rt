@@ -16,6 +16,7 @@ pub enum Fate {
 }
 
 // The lane below, a plan, and the place of the plan's next entry. A place past the end reads as its remainder by 64.
+// The plan is an array of its own, since the library allocates nothing and the entries that were given need not outlive the call.
 #[derive(Drop)]
 pub struct Noisy<L> {
     below: L,

@@ -5,11 +5,12 @@ mod slots;
 ghost use Rattle.std.specs.Prelude.{◌≡◌, ◌≤◌, length};
 
 use crate::FRAME;
+use fifo::ring::Ring;
 
 // How many frames can wait.
 const SLOTS: usize = 16;
 
-// A frame of 1 to 276 bytes, and what is left of the room behind it.
+// A frame of 1 to 276 bytes, and what is left of the room behind it. The room is an array with a length, since the library allocates nothing.
 #[derive(Clone, Copy)]
 pub struct Slot {
     bytes: [u8; FRAME],
@@ -17,11 +18,10 @@ pub struct Slot {
     ghost sized: { (1 ≤ len) × (len ≤ 276) × (length bytes ≡ 276) },
 }
 
-// A ring of slots, of which `len` from `head` on hold the frames that wait.
+// The slots, and the ring of those that hold the frames that wait. The slots are in place, since the library allocates nothing.
 #[derive(Drop)]
 pub struct Steady {
     slots: [Slot; SLOTS],
-    head: usize,
-    len: usize,
-    ghost filled: { (len ≤ 16) × (length slots ≡ 16) },
+    ring: Ring,
+    ghost filled: { (ring.len ≤ 16) × (length slots ≡ 16) },
 }

@@ -3,9 +3,9 @@ ghost use Rattle.std.specs.Prelude.{◌≡◌, ◌≤◌};
 ghost use Rattle.lane.specs.Plans.{keep_all, plan_of, Plays, SamePlan};
 ghost use Rattle.std.proofs.Common.{rules};
 
-use crate::copying::copy_to;
+use crate::Lane;
+use crate::admitting::admit;
 use crate::noisy::{Fate, Noisy, PLAN};
-use crate::{FRAME, Lane};
 use refusal::Refusal;
 
 impl<L: Lane> Noisy<L> {
@@ -30,7 +30,7 @@ impl<L: Lane> Noisy<L> {
     {
         let used = entries.len().min(PLAN);
         let mut plan = [Fate::Keep; PLAN];
-        copy_to(&mut plan, &entries[0..used]);
+        plan[..used].copy_from_slice(&entries[..used]);
         self.plan = plan;
         self.next = 0;
     }
@@ -39,7 +39,7 @@ impl<L: Lane> Noisy<L> {
 impl<L: Lane> Lane for Noisy<L> {
     const LIMIT: usize = L::LIMIT;
 
-    ghost limit = { L.Lane.limit };
+    ghost LIMIT = { L.Lane.LIMIT };
 
     ghost waiting = { λ s. L.Lane.waiting s.below };
 
@@ -55,21 +55,12 @@ impl<L: Lane> Lane for Noisy<L> {
 
     ghost sized = { Prim.search rules };
 
-    fn limit_of() -> usize {
-        L::limit_of()
-    }
-
     fn count(&self) -> usize {
         self.below.count()
     }
 
     fn put(&mut self, frame: &[u8]) -> Result<(), Refusal> {
-        if frame.len() == 0 || frame.len() > FRAME {
-            return Err(Refusal::FrameLength);
-        }
-        if self.count() >= Self::limit_of() {
-            return Err(Refusal::LaneFull);
-        }
+        admit(frame, self.count(), Self::LIMIT)?;
         let place = self.next % PLAN;
         match self.plan[place] {
             Fate::Keep => self.below.put(frame)?,
@@ -81,7 +72,6 @@ impl<L: Lane> Lane for Noisy<L> {
     }
 
     fn take(&mut self, buffer: &mut [u8]) -> Result<usize, Refusal> {
-        let n = self.below.take(buffer)?;
-        Ok(n)
+        self.below.take(buffer)
     }
 }

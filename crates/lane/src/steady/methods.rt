@@ -1,11 +1,15 @@
 // What a steady lane does.
 ghost use Rattle.std.specs.Prelude.{◌≡◌, [], ◌∷◌, ◌++◌};
-ghost use Rattle.lane.specs.Slots.{frames_of};
-ghost use Rattle.std.proofs.Common.{arith, rules};
-ghost use Rattle.lane.specs.Filled.{frames_length, all_sized};
+ghost use Rattle.lane.specs.Slots.{held, frames_of};
+ghost use Rattle.std.proofs.Common.{rules, length-take};
+ghost use Rattle.std.proofs.lemmas.List.{length-map};
+ghost use Rattle.lane.specs.Meaning.{SizedFrame};
+ghost use Rattle.std.proofs.lemmas.List.Elements.{All-map};
 
+use crate::admitting::admit;
 use crate::steady::{SLOTS, Slot, Steady};
 use crate::{FRAME, Lane};
+use fifo::ring::Ring;
 use refusal::Refusal;
 
 impl Steady {
@@ -19,8 +23,7 @@ impl Steady {
         };
         Steady {
             slots: [slot; SLOTS],
-            head: 0,
-            len: 0,
+            ring: Ring { head: 0, len: 0 },
         }
     }
 }
@@ -28,7 +31,7 @@ impl Steady {
 impl Lane for Steady {
     const LIMIT: usize = SLOTS;
 
-    ghost limit = { 16 };
+    ghost LIMIT = { 16 };
 
     ghost waiting = { frames_of };
 
@@ -39,36 +42,25 @@ impl Lane for Steady {
 
     ghost bounds = { Prim.search rules };
 
-    ghost within = { λ s. omega (arith, frames_length s) };
+    ghost within = { λ s. Prim.search (rules, length-map, length-take) };
 
-    ghost sized = { λ s. all_sized _ };
-
-    fn limit_of() -> usize {
-        Self::LIMIT
-    }
+    ghost sized = { λ s. All-map SizedFrame held _ (λ k d lt. Prim.search rules) };
 
     fn count(&self) -> usize {
-        self.len
+        self.ring.len(&self.slots)
     }
 
     fn put(&mut self, frame: &[u8]) -> Result<(), Refusal> {
-        if frame.len() == 0 || frame.len() > FRAME {
-            return Err(Refusal::FrameLength);
-        }
-        if self.count() >= Self::limit_of() {
-            return Err(Refusal::LaneFull);
-        }
-        self.push(Slot::of(frame));
-        Ok(())
+        admit(frame, self.count(), Self::LIMIT)?;
+        self.ring.put(&mut self.slots, Slot::of(frame))
     }
 
     fn take(&mut self, buffer: &mut [u8]) -> Result<usize, Refusal> {
         if buffer.len() < FRAME {
             return Err(Refusal::ShortBuffer);
         }
-        if self.count() == 0 {
-            return Err(Refusal::Nothing);
-        }
-        Ok(self.pop().copy_out(buffer))
+        let (slot, ring) = self.ring.split_first(&self.slots).ok_or(Refusal::Nothing)?;
+        self.ring = ring;
+        Ok(slot.copy_out(buffer))
     }
 }

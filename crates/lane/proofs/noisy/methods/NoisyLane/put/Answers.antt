@@ -1,11 +1,11 @@
-use Rattle.std.proofs.Common.{arith, rules}
+use Rattle.std.proofs.Common.{rules}
 use Rattle.lane.specs.Meaning.{Gains}
 use Rattle.lane.proofs.Spoilt.{spoilt}
 use Rattle.lane.proofs.noisy.methods.NoisyLane.put.Goals as goal
 use Rattle.lane.proofs.noisy.methods.NoisyLane.put.Goals.{in-Keep+in_ok-put-in-Keep, in-Lose, in-Spoil+in_ok-put-in-Spoil}
 
-pub returns : goal.returns
-returns g c =
+pub returns-clause-means : goal.returns-clause-means
+returns-clause-means g c =
     let w = g.L.Lane.waiting c.args.self.now.below in
     let f = c.args.frame.now in
     let gains : Gains w f (g.L.Lane.waiting c.match-self-place.self.below) =
@@ -14,4 +14,4 @@ returns g c =
       | in-Lose k ↦ search rules
       | in-Spoil+in_ok-put-in-Spoil k ↦ spoilt w (g.L.Lane.waiting c.match-self-place.self.below) f (search rules)
     ] in
-    record { means = ((omega arith, omega arith), omega arith, gains); kind = search rules }
+    search rules

@@ -1,6 +1,5 @@
 -- Bytes at the front of a buffer.
-use Rattle.std.proofs.Common.{◌≡◌, ℕ, ◌-◌, ◌<◌, ◌≤◌, List, [], ◌∷◌, ◌++◌, length, drop, Ok, Err, Result, sym, refl, ap, ◌∙◌, arith}
-use borrow.Rule.Slice.PartMut.{mid_of}
+use Rattle.std.proofs.Common.{◌≡◌, ℕ, ◌<◌, ◌≤◌, List, [], ◌∷◌, ◌++◌, length, take, drop, Ok, Err, Result, sym, refl, ap, ◌∙◌, arith}
 use Rattle.std.proofs.lemmas.List.{take_at}
 use Rattle.refusal.specs.declared.Refusal.{Refusal}
 use Rattle.packet.specs.Header.{stamped_of, Stamps}
@@ -20,6 +19,6 @@ pub stamps_within : (k : ℕ) (before after : List ℕ) (r : Result (Unit {0}) R
 stamps_within k before after (Ok done) stamps lt = stamps.1
 stamps_within k before after (Err e) stamps lt = absurd (omega (arith, stamps.1))
 
--- the front of a buffer that begins with f, as a part of it
-pub front : (b f rest : List ℕ) (n : ℕ) → b ≡ f ++ rest → n ≡ length f → mid_of 0 (n - 0) b ≡ f
-front b f rest n is len = let k : length f ≡ n - 0 = omega arith in ap (mid_of 0 (n - 0)) is ∙ take_at f rest (n - 0) k
+-- the front of a buffer that begins with f
+pub front : (b f rest : List ℕ) (n : ℕ) → b ≡ f ++ rest → n ≡ length f → take n b ≡ f
+front b f rest n is len = ap (take n) is ∙ take_at f rest n (sym len)

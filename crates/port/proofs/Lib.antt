@@ -1,5 +1,5 @@
 pub mod Ring
 pub mod Fronts
 pub mod Naming
-pub mod Queues
 pub mod Outcomes
+pub mod Whole

@@ -1,37 +1,12 @@
 -- Which slots some records name.
-use Rattle.std.proofs.Common.{◌≡◌, ℕ, zero, suc, ◌+◌, ◌<◌, ◌≤◌, Bool, true, false, cond, ◌||◌, eqb, ◌≢◌, List, [], ◌∷◌, ◌++◌, map, length, get_or, drop, Some, None, sym, refl, ap, ◌∙◌, inl, inr, arith}
-use Rattle.std.proofs.lemmas.Bool.{cases_lt, eqb-true, eqb-false, ne_eqb, or_parts}
-use Rattle.std.proofs.lemmas.List.{drop_more, drop_all, map_push}
-use Rattle.fifo.specs.Held.{oldest}
+use Rattle.std.proofs.Common.{◌≡◌, ℕ, zero, suc, ◌<◌, ◌≤◌, Bool, true, false, cond, ◌||◌, eqb, ◌≢◌, List, [], ◌∷◌, ◌++◌, map, length, sym, refl, ap, ◌∙◌, arith}
+use Rattle.std.proofs.lemmas.Bool.{eqb-true, eqb-false, ne_eqb, or_parts}
+use Rattle.std.proofs.lemmas.List.{map_push}
 use Rattle.port.specs.declared.record.WaitingSlot.{WaitingSlot}
-use Rattle.port.specs.declared.slots.ReceiveSlots.{ReceiveSlots}
+use Rattle.port.specs.declared.slots.Slots.{Slots}
 use Rattle.port.specs.Slots.{front_in}
 use Rattle.port.specs.Waiting.{recorded}
 use Rattle.port.specs.Inner.{is_named}
-
--- there is a record at each place below the length
-pub found : (k : ℕ) (rs : List WaitingSlot) → k < length rs → oldest (drop k rs) ≡ None → ⊥
-found k rs lt none = go rs k lt none
-  where
-    go : (xs : List WaitingSlot) (n : ℕ) → n < length xs → oldest (drop n xs) ≡ None → ⊥
-    go [] n l e = omega arith
-    go (x ∷ xs) zero l e = let z : ◌≡◌ {A = ℕ} 0 1 = cc in omega arith
-    go (x ∷ xs) (suc n) l e = go xs n (omega arith) e
-
--- whether the records from k on name a slot, by the first of them
-pub named_from : (slot k : ℕ) (rs : List WaitingSlot) (r : WaitingSlot) → oldest (drop k rs) ≡ Some r → is_named slot (drop k rs) ≡ (eqb r.slot slot || is_named slot (drop (k + 1) rs))
-named_from slot k rs r is =
-    elim (cases_lt k (length rs)) [
-      | inl lt ↦
-          let all : drop k rs ≡ get_or rs k r ∷ drop (k + 1) rs = drop_more rs k r lt in
-          let first : oldest (drop k rs) ≡ Some (get_or rs k r) = ap oldest all in
-          let same : get_or rs k r ≡ r = cc in
-          ap (is_named slot) all ∙ ap (λ (x : WaitingSlot). eqb x.slot slot || is_named slot (drop (k + 1) rs)) same
-      | inr past ↦
-          let none : oldest (drop k rs) ≡ None = ap oldest (drop_all k rs past) in
-          let z : ◌≡◌ {A = ℕ} 0 1 = cc in
-          absurd (omega arith)
-    ]
 
 -- the records without the first that names a slot
 without : ℕ → List WaitingSlot → List WaitingSlot
@@ -67,7 +42,7 @@ named_all (suc m) rs all =
     omega arith
 
 -- a slot that no record names may change, and the packets that they are of do not
-pub others_stay : (old new : ReceiveSlots) (slot : ℕ) (rs : List WaitingSlot) → is_named slot rs ≡ false → ((j n : ℕ) → (j ≡ slot → ⊥) → front_in new j n ≡ front_in old j n) → map (recorded new) rs ≡ map (recorded old) rs
+pub others_stay : (old new : Slots 8) (slot : ℕ) (rs : List WaitingSlot) → is_named slot rs ≡ false → ((j n : ℕ) → (j ≡ slot → ⊥) → front_in new j n ≡ front_in old j n) → map (recorded new) rs ≡ map (recorded old) rs
 others_stay old new slot [] free others = refl
 others_stay old new slot (r ∷ rs) free others =
     let parts = or_parts (eqb r.slot slot) (is_named slot rs) free in
@@ -76,6 +51,6 @@ others_stay old new slot (r ∷ rs) free others =
     cc
 
 -- one more packet waits, in a slot that no record named
-pub waits_more : (old new : ReceiveSlots) (rs rs' : List WaitingSlot) (r : WaitingSlot) (p : List ℕ) → is_named r.slot rs ≡ false → ((j n : ℕ) → (j ≡ r.slot → ⊥) → front_in new j n ≡ front_in old j n) → recorded new r ≡ p → rs' ≡ rs ++ r ∷ [] → map (recorded new) rs' ≡ map (recorded old) rs ++ p ∷ []
+pub waits_more : (old new : Slots 8) (rs rs' : List WaitingSlot) (r : WaitingSlot) (p : List ℕ) → is_named r.slot rs ≡ false → ((j n : ℕ) → (j ≡ r.slot → ⊥) → front_in new j n ≡ front_in old j n) → recorded new r ≡ p → rs' ≡ rs ++ r ∷ [] → map (recorded new) rs' ≡ map (recorded old) rs ++ p ∷ []
 waits_more old new rs rs' r p free others here more =
     ap (map (recorded new)) more ∙ map_push (recorded new) rs r ∙ ap (λ (x : List ℕ). map (recorded new) rs ++ x ∷ []) here ∙ ap (λ (l : List (List ℕ)). l ++ p ∷ []) (others_stay old new r.slot rs free others)

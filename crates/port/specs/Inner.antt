@@ -1,5 +1,6 @@
 -- What the functions inside a port promise one another. No contract of a call that is offered names these.
-use Rattle.std.specs.Prelude.{◌≡◌, ℕ, ◌<◌, ◌≤◌, Bool, true, false, ◌||◌, List, [], ◌∷◌, ◌++◌, length, drop, Some, None, Ok, Err, Option, Result, ◌==◌, slice_index_or}
+use Rattle.std.specs.Prelude.{◌≡◌, ℕ, ◌<◌, ◌≤◌, Bool, true, false, List, [], ◌∷◌, ◌++◌, length, drop, Some, None, Ok, Err, Option, Result, ◌==◌, slice_index_or}
+use Rattle.std.specs.List.{list_any}
 use Rattle.refusal.specs.declared.Refusal.{Refusal}
 use Rattle.refusal.specs.declared.Refusal.TheVariants.{Nothing}
 use Rattle.lane.specs.Meaning.{SizedFrame}
@@ -10,6 +11,7 @@ use Rattle.rules.specs.Calls.{Departure}
 use Rattle.rules.specs.Serial.{serial}
 use Rattle.port.specs.declared.window.Window.{Window}
 use Rattle.port.specs.declared.record.WaitingSlot.{WaitingSlot}
+use Rattle.port.specs.Waiting.{Half}
 use Rattle.port.specs.Promises.{copied}
 
 -- A window has these four numbers.
@@ -23,10 +25,14 @@ pub record Is (w : Window) (first held sent high : ℕ) : Type 0 where
 abbrev pub next_frame : Sender → Frame
 next_frame o = serial.stamp (after 32 o.first o.sent) (slice_index_or o.held o.sent [])
 
+-- There is a place for another reply. This is said of a moment, and where one is pended it may hold no longer: so it is a premise
+-- of each function that may pend one, and no fact of a type.
+abbrev pub CanReply : Half → Type 0
+CanReply r = length r.receiver.pending < r.places.replies
+
 -- Whether one of some records names a slot.
 abbrev pub is_named : ℕ → List WaitingSlot → Bool
-is_named slot [] = false
-is_named slot (r ∷ rs) = r.slot == slot || is_named slot rs
+is_named slot = list_any (λ r. r.slot == slot)
 
 -- A slot that no record names is found while fewer than eight packets wait.
 abbrev pub FindsFree : List WaitingSlot → Option ℕ → Type 0

@@ -3,9 +3,10 @@
 use crate::ack::AckId;
 use crate::pending::PendingReply;
 use crate::record::WaitingSlot;
-use crate::slots::ReceiveSlots;
+use crate::slots::{RECEIVE_SLOTS, Slots};
 use fifo::Queue;
 use rules::state::Input;
+use std::marker::Model;
 
 pub mod hearing;
 pub mod storing;
@@ -18,5 +19,14 @@ pub struct Receiving<'r, 'w> {
     pub(crate) expected: AckId,
     replies: Queue<'r, PendingReply>,
     records: Queue<'w, WaitingSlot>,
-    slots: ReceiveSlots,
+    slots: Slots<RECEIVE_SLOTS>,
+}
+
+// Clauses see the receiver of the rules, and the places of both queues.
+impl<'r, 'w> Model for Receiving<'r, 'w> {
+    ghost use Rattle.port.specs.Waiting.{Half, half_of};
+
+    ghost Value = { Half };
+
+    ghost view = { half_of };
 }

@@ -1,7 +1,8 @@
 // The records of the packets that wait to be collected.
 ghost use Rattle.std.specs.Prelude.{◌≡◌, ◌<◌, ◌≤◌};
 
-// The receive slot that a packet lies in, and its length.
+// The receive slot that a packet lies in, and its length. Slots are named by number, since they lie in an array: the library
+// allocates nothing.
 #[derive(Clone, Copy)]
 pub struct WaitingSlot {
     pub(crate) slot: u8,

@@ -1,6 +1,9 @@
 -- The serial format is lawful.
-use Rattle.std.proofs.Common.{◌≡◌, ℕ, ◌%◌, ◌<◌, ◌≤◌, Bool, true, false, cond, ◌&&◌, eqb, leb, List, [], ◌∷◌, length, Some, None, Option, sym, refl, ap, ◌∙◌, subst, arith}
+use Rattle.std.proofs.Common.{◌≡◌, ℕ, ◌%◌, ◌<◌, ◌≤◌, Bool, true, false, cond, ◌&&◌, eqb, leb, List, [], ◌∷◌, length, Some, None, Ok, Err, Option, Result, sym, refl, ap, ◌∙◌, subst, arith}
+use Rattle.std.specs.Result.{result_ok}
 use Rattle.std.proofs.lemmas.Bool.{and_parts, and_from, eqb-true, eq-eqb, ne_eqb, leb-true, le-leb}
+use Rattle.refusal.specs.Naming.{Names}
+use Rattle.symbol.specs.declared.codes.NoName.{NoName}
 use Rattle.symbol.specs.declared.codes.Stype0.{Stype0}
 use Rattle.symbol.specs.declared.codes.Stype0.TheVariants.{Accepted as SaysAccepted, Retry as SaysRetry, NotAccepted as SaysNotAccepted, Status as SaysStatus, Response as SaysResponse}
 use Rattle.symbol.specs.declared.codes.Stype1.{Stype1}
@@ -9,7 +12,7 @@ use Rattle.symbol.specs.declared.codes.Cause.{Cause}
 use Rattle.symbol.specs.declared.codes.Cause.TheVariants.{UnexpectedAckId, SymbolCheck, PacketCheck, InvalidCharacter}
 use Rattle.symbol.specs.declared.codes.PortStatus.{PortStatus}
 use Rattle.symbol.specs.declared.codes.PortStatus.TheVariants.{Ready, RetryStopped, ErrorStopped, Failed}
-use Rattle.symbol.specs.Codes.{stype0_of, stype1_of, cmd_of, cause_of, status_of, Names, NamesBoth}
+use Rattle.symbol.specs.Codes.{stype0_of, stype1_of, cmd_of, cause_of, status_of, NamesBoth, symbol_of}
 use Rattle.symbol.specs.Layout.{Fits, written_of}
 use Rattle.packet.specs.Crc.{cleared_of}
 use Rattle.packet.specs.Header.{stamped_of}
@@ -22,7 +25,7 @@ use Rattle.rules.specs.declared.state.Reply.{Reply}
 use Rattle.rules.specs.declared.state.Reply.TheVariants.{Accepted, Retry, NotAccepted, Response}
 use Rattle.rules.specs.Wire.{Packet, FrameLength, Lawful, ReadsReply, ReadsAsking, ack_id_of as reply_ack_id}
 use Rattle.rules.specs.Wire.Seen.{symbol, packet}
-use Rattle.rules.specs.Serial.{symbol_of, receiver_controlled, asking_symbol, is_load, named, says_of, commanded, asks_of, ack_id_in, seen_as, serial, SealsLoads, ReadsNames, SpoilsByUnsound}
+use Rattle.rules.specs.Serial.{receiver_controlled, asking_symbol, is_load, named, says_of, commanded, asks_of, ack_id_in, seen_as, serial, SealsLoads, ReadsNames, SpoilsByUnsound}
 
 -- loads -------------------------------------------------------------------------------------------------------
 
@@ -155,15 +158,15 @@ named_none number_of [] code h = refl
 named_none number_of (x ∷ xs) code h =
     ap (λ (b : Bool). cond b (Some x) (named number_of xs code)) (ne_eqb (number_of x) code (h x)) ∙ named_none number_of xs code h
 
-says_names : (code : ℕ) (name : Option Stype0) → Names stype0_of code name → says_of code ≡ name
-says_names code (Some x) e = ap says_of (sym e) ∙ says_back x
-says_names code None h = named_none stype0_of (SaysAccepted ∷ SaysRetry ∷ SaysNotAccepted ∷ SaysStatus ∷ SaysResponse ∷ []) code h
+says_names : (code : ℕ) (name : Result Stype0 NoName) → Names stype0_of code name → says_of code ≡ result_ok name
+says_names code (Ok x) e = ap says_of (sym e) ∙ says_back x
+says_names code (Err e) h = named_none stype0_of (SaysAccepted ∷ SaysRetry ∷ SaysNotAccepted ∷ SaysStatus ∷ SaysResponse ∷ []) code h
 
-asks_names : (stype1 cmd : ℕ) (name : Option Stype1) → NamesBoth stype1 cmd name → asks_of stype1 cmd ≡ name
-asks_names stype1 cmd (Some AsksRestart) e = ap (λ (x : ℕ). asks_of x cmd) e
-asks_names stype1 cmd (Some AsksRequest) e = ap (λ (x : ℕ). asks_of x cmd) e.0 ∙ ap (asks_of 4) e.1
-asks_names stype1 cmd (Some AsksNop) e = ap (λ (x : ℕ). asks_of x cmd) e
-asks_names stype1 cmd None h = go (eqb 3 stype1) (eqb 4 stype1) (eqb 7 stype1) (eqb 4 cmd) refl refl refl refl
+asks_names : (codes : ℕ × ℕ) (name : Result Stype1 NoName) → NamesBoth codes name → asks_of codes.0 codes.1 ≡ result_ok name
+asks_names codes (Ok AsksRestart) e = ap (λ (x : ℕ). asks_of x codes.1) e
+asks_names codes (Ok AsksRequest) e = ap (λ (x : ℕ). asks_of x codes.1) e.0 ∙ ap (asks_of 4) e.1
+asks_names codes (Ok AsksNop) e = ap (λ (x : ℕ). asks_of x codes.1) e
+asks_names (stype1, cmd) (Err e) h = go (eqb 3 stype1) (eqb 4 stype1) (eqb 7 stype1) (eqb 4 cmd) refl refl refl refl
   where
     go : (x y z u : Bool) → eqb 3 stype1 ≡ x → eqb 4 stype1 ≡ y → eqb 7 stype1 ≡ z → eqb 4 cmd ≡ u
         → commanded cmd (cond x (Some AsksRestart) (cond y (Some AsksRequest) (cond z (Some AsksNop) None))) ≡ None

@@ -7,3 +7,4 @@ pub mod Rounds
 pub mod Delivery
 pub mod Serial
 pub mod Facts
+pub mod Words

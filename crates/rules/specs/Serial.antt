@@ -1,11 +1,14 @@
 -- The serial format (RapidIO Part 6, revision 1.3) as a wire format with 32 ackIDs: the symbol and packet crates' layouts.
-use Rattle.std.specs.Prelude.{◌≡◌, ℕ, ◌%◌, Bool, cond, ◌&&◌, List, [], ◌∷◌, length, Some, None, Option, ◌==◌, nat_le}
+use Rattle.std.specs.Prelude.{◌≡◌, ℕ, ◌%◌, Bool, cond, ◌&&◌, List, [], ◌∷◌, length, Some, None, Option, Result, ◌==◌, nat_le}
+use Rattle.std.specs.Result.{result_ok}
+use Rattle.refusal.specs.Naming.{Names}
 use Rattle.symbol.specs.declared.Symbol.{Symbol}
+use Rattle.symbol.specs.declared.codes.NoName.{NoName}
 use Rattle.symbol.specs.declared.codes.Stype0.{Stype0}
 use Rattle.symbol.specs.declared.codes.Stype0.TheVariants.{Accepted as SaysAccepted, Retry as SaysRetry, NotAccepted as SaysNotAccepted, Status as SaysStatus, Response as SaysResponse}
 use Rattle.symbol.specs.declared.codes.Stype1.{Stype1}
 use Rattle.symbol.specs.declared.codes.Stype1.TheVariants.{Restart as AsksRestart, Request as AsksRequest, Nop as AsksNop}
-use Rattle.symbol.specs.Codes.{stype0_of, stype1_of, cmd_of, cause_of, status_of, Names, NamesBoth}
+use Rattle.symbol.specs.Codes.{stype0_of, stype1_of, cmd_of, cause_of, status_of, NamesBoth, symbol_of}
 use Rattle.symbol.specs.Layout.{written_of}
 use Rattle.packet.specs.declared.frame.Kind.{Kind}
 use Rattle.packet.specs.declared.frame.Kind.TheVariants.{Symbol as KindSymbol, Packet as KindPacket, Unsound as KindUnsound}
@@ -22,10 +25,6 @@ use Rattle.rules.specs.Link.Fate.{spoil}
 use Rattle.rules.specs.Delivery.{Delivers}
 
 -- What is written ---------------------------------------------------------------------------------------------
-
--- A symbol that says this, with an ackID and a second parameter, and asks that.
-abbrev pub symbol_of : Stype0 → ℕ → ℕ → Stype1 → Symbol
-symbol_of says k q asks = record { stype0 = stype0_of says; parameter0 = k; parameter1 = q; stype1 = stype1_of asks; cmd = cmd_of asks }
 
 -- The second parameter where there is neither a cause nor a state: it announces receiver-controlled flow.
 abbrev pub receiver_controlled : ℕ
@@ -102,8 +101,8 @@ SealsLoads =
 -- It has the symbol crate's names for codes.
 abbrev pub ReadsNames : Type 0
 ReadsNames =
-    ((code : ℕ) (name : Option Stype0) → Names stype0_of code name → says_of code ≡ name)
-    × ((stype1 cmd : ℕ) (name : Option Stype1) → NamesBoth stype1 cmd name → asks_of stype1 cmd ≡ name)
+    ((code : ℕ) (name : Result Stype0 NoName) → Names stype0_of code name → says_of code ≡ result_ok name)
+    × ((codes : ℕ × ℕ) (name : Result Stype1 NoName) → NamesBoth codes name → asks_of codes.0 codes.1 ≡ result_ok name)
 
 -- A lane may have any unsound frame in place of another.
 abbrev pub SpoilsByUnsound : Type 0

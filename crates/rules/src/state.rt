@@ -1,4 +1,8 @@
 // The states of a port, what it replies, and what its calls answer.
+ghost use Rattle.std.specs.Prelude.{Some};
+ghost use Rattle.rules.specs.Words.{sent_word, received_word};
+
+use std::fmt;
 use symbol::codes::{Cause, PortStatus};
 
 // One of a link's two ports.
@@ -56,10 +60,35 @@ pub enum Sent {
     Packet,
 }
 
+impl fmt::Display for Sent {
+    ghost output = { λ sent. Some (sent_word sent) };
+
+    fn fmt<W: fmt::Write>(&self, f: &mut fmt::Formatter<W>) -> fmt::Result {
+        match self {
+            Sent::Reply => write!(f, "reply"),
+            Sent::Restart => write!(f, "restart"),
+            Sent::Request => write!(f, "request"),
+            Sent::Packet => write!(f, "packet"),
+        }
+    }
+}
+
 // What a receive found in the frame that it took.
 #[derive(Clone, Copy, Debug, PartialEq, Eq)]
 pub enum Received {
     Symbol,
     Packet,
     Unsound,
+}
+
+impl fmt::Display for Received {
+    ghost output = { λ received. Some (received_word received) };
+
+    fn fmt<W: fmt::Write>(&self, f: &mut fmt::Formatter<W>) -> fmt::Result {
+        match self {
+            Received::Symbol => write!(f, "symbol"),
+            Received::Packet => write!(f, "packet"),
+            Received::Unsound => write!(f, "unsound"),
+        }
+    }
 }

@@ -4,85 +4,74 @@ ghost use Rattle.fifo.specs.Held.{queued};
 ghost use Rattle.packet.specs.Crc.{cleared_of};
 ghost use Rattle.rules.specs.Port.{Places, fresh, has_slot};
 ghost use Rattle.rules.specs.Calls.{keeping};
-ghost use Rattle.port.specs.Waiting.{receiver_of, places_in};
 ghost use Rattle.port.specs.Inner.{is_named, FindsFree, stored, Gives};
 
 use super::Receiving;
 use crate::ack::AckId;
 use crate::pending::PendingReply;
 use crate::record::WaitingSlot;
-use crate::slots::{RECEIVE_SLOTS, ReceiveSlots};
+use crate::sized::Frame;
+use crate::slots::{RECEIVE_SLOTS, Slots};
 use fifo::Queue;
+use lane::FRAME;
 use refusal::Refusal;
 use rules::state::Input;
+
+// Whether a record names a slot.
+fn is_named(records: &Queue<'_, WaitingSlot>, slot: u8) -> bool
+    ensures { result ≡ is_named slot (queued records.now) }
+{
+    records.iter().any(|record| record.slot == slot)
+}
+
+// A slot that no record names. There is one unless eight packets wait.
+fn free_slot(records: &Queue<'_, WaitingSlot>) -> Option<u8>
+    ensures { FindsFree (queued records.now) result }
+{
+    if records.len() >= RECEIVE_SLOTS {
+        return None;
+    }
+    (0..RECEIVE_SLOTS as u8).find(|slot| !is_named(records, *slot))
+}
 
 impl<'r, 'w> Receiving<'r, 'w> {
     pub(crate) fn new(
         replies: &'r mut [PendingReply],
         records: &'w mut [WaitingSlot],
     ) -> Receiving<'r, 'w>
-        ensures receiver { (places : Places) → receiver_of result ≡ (fresh places).receiver }
-        ensures replies { (places_in result).replies ≡ length replies.old }
-        ensures packets { (places_in result).packets ≡ length records.old }
+        ensures receiver { (places : Places) → result.receiver ≡ (fresh places).receiver }
+        ensures replies { result.places.replies ≡ length replies.old }
+        ensures packets { result.places.packets ≡ length records.old }
     {
         Receiving {
             input: Input::Ready,
             expected: AckId::zero(),
             replies: Queue::new(replies),
             records: Queue::new(records),
-            slots: ReceiveSlots::new(),
+            slots: Slots::new(),
         }
     }
 
     // How many packets wait.
     pub(crate) fn waiting(&self) -> usize
-        ensures { result ≡ length (receiver_of self.now).waiting }
+        ensures { result ≡ length self.now.receiver.waiting }
     {
         self.records.len()
     }
 
-    // Whether a record names a slot.
-    fn is_named(&self, slot: u8) -> bool
-        ensures { result ≡ is_named slot (queued self.now.records) }
+    // Stores a packet, its first six bits set to zero, where there is a free slot and a place for its record. Whether there is
+    // one is a yes or no, as the rules ask it, and no refusal.
+    pub(crate) fn store(&mut self, packet: Frame<'_>) -> bool
+        ensures answer { result ≡ has_slot self.old.places self.old.receiver.waiting }
+        ensures receiver { self.new.receiver ≡ keeping (stored result (cleared_of packet.entry.bytes.now) self.old.receiver.waiting) self.old.receiver }
+        ensures places { self.new.places ≡ self.old.places }
     {
-        for k in 0..self.records.len() {
-            if let Some(record) = self.records.get(k) {
-                if record.slot == slot {
-                    return true;
-                }
-            }
-        }
-        false
-    }
-
-    // A slot that no record names. There is one unless eight packets wait.
-    fn free_slot(&self) -> Option<u8>
-        ensures { FindsFree (queued self.now.records) result }
-    {
-        if self.records.len() >= RECEIVE_SLOTS {
-            return None;
-        }
-        for slot in 0..RECEIVE_SLOTS as u8 {
-            if !self.is_named(slot) {
-                return Some(slot);
-            }
-        }
-        None
-    }
-
-    // Stores a packet, its first six bits set to zero, where there is a free slot and a place for its record.
-    pub(crate) fn store(&mut self, packet: &[u8]) -> bool
-        requires { (1 ≤ length packet.now) × (length packet.now ≤ 276) }
-        ensures answer { result ≡ has_slot (places_in self.old) (receiver_of self.old).waiting }
-        ensures receiver { receiver_of self.new ≡ keeping (stored result (cleared_of packet.now) (receiver_of self.old).waiting) (receiver_of self.old) }
-        ensures places { places_in self.new ≡ places_in self.old }
-    {
-        let Some(slot) = self.free_slot() else {
+        let Some(slot) = free_slot(&self.records) else {
             return false;
         };
         let record = WaitingSlot {
             slot,
-            len: packet.len() as u16,
+            len: packet.bytes.len() as u16,
         };
         match self.records.put(record) {
             Ok(()) => {
@@ -94,11 +83,10 @@ impl<'r, 'w> Receiving<'r, 'w> {
     }
 
     // Copies the oldest packet to the front of a buffer, answers its length and removes it. Refused with 4 where none waits.
-    pub(crate) fn give(&mut self, buffer: &mut [u8]) -> Result<usize, Refusal>
-        requires { 276 ≤ length buffer.old }
-        ensures gives { Gives (receiver_of self.old).waiting buffer.old result (receiver_of self.new).waiting buffer.new }
-        ensures receiver { receiver_of self.new ≡ keeping (receiver_of self.new).waiting (receiver_of self.old) }
-        ensures places { places_in self.new ≡ places_in self.old }
+    pub(crate) fn give(&mut self, buffer: &mut [u8; FRAME]) -> Result<usize, Refusal>
+        ensures gives { Gives self.old.receiver.waiting buffer.old result self.new.receiver.waiting buffer.new }
+        ensures receiver { self.new.receiver ≡ keeping self.new.receiver.waiting self.old.receiver }
+        ensures places { self.new.places ≡ self.old.places }
     {
         let record = self.records.take()?;
         let len = record.len as usize;

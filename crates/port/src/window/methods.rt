@@ -1,10 +1,10 @@
-// What changes a window. Each change writes it whole.
+// What changes a window. Each change writes it whole, field by field: no `..` is taken of a struct that keeps facts of its fields.
 ghost use Rattle.std.specs.Prelude.{◌≡◌, ◌+◌, ◌-◌, ◌%◌, ◌<◌, ◌≤◌, max};
 ghost use Rattle.rules.specs.Port.{after, distance};
 ghost use Rattle.port.specs.Inner.{Is};
 
 use super::Window;
-use crate::ack::ACK_IDS;
+use crate::ack::{ACK_IDS, AckId};
 
 impl Window {
     pub(crate) fn new() -> Window
@@ -27,11 +27,10 @@ impl Window {
     }
 
     // How far an ackID comes after the first.
-    pub(crate) fn distance_to(self, ack_id: u8) -> u8
-        requires { ack_id < 32 }
+    pub(crate) fn distance_to(self, ack_id: AckId) -> u8
         ensures { result ≡ distance 32 ack_id self.first }
     {
-        (ack_id + (ACK_IDS - self.first)) % ACK_IDS
+        (ack_id.value + (ACK_IDS - self.first)) % ACK_IDS
     }
 
     // One more packet is held.

@@ -9,20 +9,15 @@ use lane::steady::Steady;
 use lane::{FRAME, Lane};
 use link::Link;
 use link::call::{Call, Outcome};
-use port::Port;
-use port::pending::PendingReply;
-use port::record::WaitingSlot;
+use port::memory::Memory;
 use refusal::Refusal;
 use script::line::Line;
-use script::lines::first_line;
+use script::lines::Lines;
 use script::print::{Answer, header, refused_row, row};
 use script::read::{ReadError, read};
 use std::alloc::{AllocError, Global};
 
-// The places of each queue.
-const PLACES: usize = 8;
-
-// What a call came to, as the bench prints it.
+// What a call came to, as the bench prints it. Both types are other crates', so it is no `From`.
 fn answer_of(outcome: Result<Outcome, Refusal>) -> Answer
     ensures { result ≡ answer_of outcome }
 {
@@ -43,20 +38,21 @@ fn perform<A: Lane, B: Lane>(
     line: &Line,
     buffer: &mut [u8],
 ) -> Answer
-    ensures { Plays A.Lane.waiting B.Lane.waiting A.Lane.limit B.Lane.limit (said_by line.now) link.old buffer.old result link.new buffer.new }
+    ensures { Plays A.Lane.waiting B.Lane.waiting A.Lane.LIMIT B.Lane.LIMIT (said_by line.now) link.old buffer.old result link.new buffer.new }
 {
     let at = line.port();
-    match line {
-        Line::Submit(_, load) => answer_of(link.perform(at, Call::Submit, load.as_slice(), buffer)),
-        Line::Send(_) => answer_of(link.perform(at, Call::Send, &[], buffer)),
-        Line::Receive(_) => answer_of(link.perform(at, Call::Receive, &[], buffer)),
-        Line::Collect(_) => answer_of(link.perform(at, Call::Collect, &[], buffer)),
-        Line::TimeOut(_) => answer_of(link.perform(at, Call::TimeOut, &[], buffer)),
+    let (call, load): (Call, &[u8]) = match line {
+        Line::Submit(_, load) => (Call::Submit, load.as_slice()),
+        Line::Send(_) => (Call::Send, &[]),
+        Line::Receive(_) => (Call::Receive, &[]),
+        Line::Collect(_) => (Call::Collect, &[]),
+        Line::TimeOut(_) => (Call::TimeOut, &[]),
         Line::Plan(_, plan) => {
             link.set_plan(at, plan);
-            Answer::Done
+            return Answer::Done;
         }
-    }
+    };
+    answer_of(link.perform(at, call, load, buffer))
 }
 
 // Plays one line of a script, and answers what is printed for it.
@@ -66,7 +62,7 @@ fn play_line<A: Lane, B: Lane>(
     number: usize,
     text: &[u8],
 ) -> Result<String, AllocError>
-    ensures { IfOk result (λ printed. Prints A.Lane.waiting B.Lane.waiting A.Lane.limit B.Lane.limit number text.now link.old (string_bytes printed) link.new) }
+    ensures { IfOk result (λ printed. Prints A.Lane.waiting B.Lane.waiting A.Lane.LIMIT B.Lane.LIMIT number text.now link.old (string_bytes printed) link.new) }
 {
     match read(heap, text) {
         Ok(line) => {
@@ -86,26 +82,23 @@ fn play_on<A: Lane, B: Lane>(
     link: &mut Link<Noisy<A>, Noisy<B>>,
     script: &[u8],
 ) -> anyhow::Result<()> {
-    let mut rest = script;
-    let mut number: usize = 0;
-    while let Some(first) = first_line(rest) {
-        number = number.saturating_add(1);
-        let printed = play_line(rt.alloc(), link, number, first.line)?;
+    for (number, text) in (1..).zip(Lines::of(script)) {
+        let printed = play_line(rt.alloc(), link, number, text)?;
         println!(rt; "{printed}")?;
-        rest = first.rest;
     }
     Ok(())
 }
 
 // Plays a script on a fresh link.
 pub(crate) fn play(rt: &HostRuntime, script: &[u8]) -> anyhow::Result<()> {
-    let mut replies_a = [PendingReply::unused(); PLACES];
-    let mut records_a = [WaitingSlot::unused(); PLACES];
-    let mut replies_b = [PendingReply::unused(); PLACES];
-    let mut records_b = [WaitingSlot::unused(); PLACES];
-    let a = Port::new(&mut replies_a, &mut records_a);
-    let b = Port::new(&mut replies_b, &mut records_b);
-    let mut link = Link::new(a, b, Noisy::new(Steady::new()), Noisy::new(Steady::new()));
+    let mut memory_a = Memory::unused();
+    let mut memory_b = Memory::unused();
+    let mut link = Link::new(
+        memory_a.port(),
+        memory_b.port(),
+        Noisy::new(Steady::new()),
+        Noisy::new(Steady::new()),
+    );
     let names = header();
     println!(rt; "{names}")?;
     play_on(rt, &mut link, script)

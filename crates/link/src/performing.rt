@@ -1,6 +1,5 @@
 // One call at one port.
 ghost use Rattle.std.specs.Prelude.{length};
-ghost use Rattle.port.specs.Model.{port_of};
 ghost use Rattle.link.specs.Performing.{Scene, Does};
 
 use crate::call::{Call, Outcome};
@@ -9,6 +8,8 @@ use port::Port;
 use refusal::Refusal;
 
 // Does a call at a port, which writes the lane `out` and reads the lane `incoming`. Only a submit looks at the load.
+// The port and its lanes are three parameters: a struct of three loans would be written out at both ports just as the call is.
+// The calls are an enum and no closures, since a script tells them.
 pub(crate) fn perform_at<O: Lane, I: Lane>(
     port: &mut Port,
     out: &mut O,
@@ -17,7 +18,7 @@ pub(crate) fn perform_at<O: Lane, I: Lane>(
     load: &[u8],
     buffer: &mut [u8],
 ) -> Result<Outcome, Refusal>
-    ensures { Does O.Lane.limit call load.now (record { port = port_of port.entry.now; out = O.Lane.waiting out.old; incoming = I.Lane.waiting incoming.old; buffer = buffer.old }) result (record { port = port_of port.exit.now; out = O.Lane.waiting out.new; incoming = I.Lane.waiting incoming.new; buffer = buffer.new }) }
+    ensures { Does O.Lane.LIMIT call load.now (record { port = port.entry.now; out = O.Lane.waiting out.old; incoming = I.Lane.waiting incoming.old; buffer = buffer.old }) result (record { port = port.exit.now; out = O.Lane.waiting out.new; incoming = I.Lane.waiting incoming.new; buffer = buffer.new }) }
 {
     match call {
         Call::Submit => {

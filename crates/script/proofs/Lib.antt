@@ -1,5 +1,4 @@
-pub mod Cuts
 pub mod Each
+pub mod Cuts
 pub mod Spelt
 pub mod Texts
-pub mod Shown

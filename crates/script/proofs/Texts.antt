@@ -1,5 +1,6 @@
 -- A text says one thing at most. Assumes nothing.
-use Rattle.std.proofs.Common.{◌≡◌, ℕ, ◌-◌, cond, eqb, List, [], ◌∷◌, ◌++◌, map, length, get_or, drop, replicate, Ok, Result, sym, refl, ap, ◌∙◌, subst, arith}
+use Rattle.std.proofs.Common.{◌≡◌, ℕ, ◌-◌, if◌then◌else◌, ◌==◌, List, [], ◌∷◌, ◌++◌, map, length, slice_index_or, drop, replicate, Ok, Err, Result, sym, refl, ap, ◌∙◌, subst}
+use Rattle.std.specs.Result.{IsErrAnd}
 use Rattle.std.proofs.lemmas.List.{length-map}
 use Rattle.rules.specs.declared.state.PortId.{PortId}
 use Rattle.rules.specs.declared.state.PortId.TheVariants.{A, B}
@@ -8,14 +9,18 @@ use Rattle.lane.specs.declared.noisy.Fate.TheVariants.{Keep, Lose, Spoil}
 use Rattle.script.specs.declared.call.Call.{Call}
 use Rattle.script.specs.declared.call.Call.TheVariants.{Submit, Send, Receive, Collect, TimeOut, Plan}
 use Rattle.script.specs.declared.line.Line.{Line}
-use Rattle.script.specs.declared.read.ReadError.{ReadError}
 use Rattle.script.specs.Letters.{call_letter, port_letter, fate_letter}
 use Rattle.script.specs.Said.{Said, submit, send, receive, collect, time_out, plan, said_by, call_of, port_of}
 use Rattle.script.specs.Reading.{bytes_of, Pairs, Fills, head_of, Follows, NoLine, Reads}
 
 -- from letters back to what they name
 call_at : ℕ → Call
-call_at letter = cond (eqb letter 104) Submit (cond (eqb letter 115) Send (cond (eqb letter 114) Receive (cond (eqb letter 99) Collect (cond (eqb letter 111) TimeOut Plan))))
+call_at letter =
+    if letter == 104 then Submit else
+    if letter == 115 then Send else
+    if letter == 114 then Receive else
+    if letter == 99 then Collect else
+    if letter == 111 then TimeOut else Plan
 
 call_back : (call : Call) → call_at (call_letter call) ≡ call
 unfolding call_at
@@ -27,7 +32,7 @@ call_back TimeOut = refl
 call_back Plan = refl
 
 port_at : ℕ → PortId
-port_at letter = cond (eqb letter 97) A B
+port_at letter = if letter == 97 then A else B
 
 port_back : (port : PortId) → port_at (port_letter port) ≡ port
 unfolding port_at
@@ -35,7 +40,7 @@ port_back A = refl
 port_back B = refl
 
 fate_at : ℕ → Fate
-fate_at letter = cond (eqb letter 107) Keep (cond (eqb letter 108) Lose Spoil)
+fate_at letter = if letter == 107 then Keep else if letter == 108 then Lose else Spoil
 
 fate_back : (fate : Fate) → fate_at (fate_letter fate) ≡ fate
 unfolding fate_at
@@ -70,10 +75,10 @@ said_from_lem (plan port fates) tail (entries, field, (some, room, is)) =
 
 -- the same beginning has the same call, port and rest
 same_call : (call call' : Call) (port port' : PortId) (tail tail' : List ℕ) → head_of call port ++ tail ≡ head_of call' port' ++ tail' → call ≡ call'
-same_call call call' port port' tail tail' e = sym (call_back call) ∙ ap (λ t. call_at (get_or t 0 0)) e ∙ call_back call'
+same_call call call' port port' tail tail' e = sym (call_back call) ∙ ap (λ t. call_at (slice_index_or t 0 0)) e ∙ call_back call'
 
 same_port : (call call' : Call) (port port' : PortId) (tail tail' : List ℕ) → head_of call port ++ tail ≡ head_of call' port' ++ tail' → port ≡ port'
-same_port call call' port port' tail tail' e = sym (port_back port) ∙ ap (λ t. port_at (get_or t 2 0)) e ∙ port_back port'
+same_port call call' port port' tail tail' e = sym (port_back port) ∙ ap (λ t. port_at (slice_index_or t 2 0)) e ∙ port_back port'
 
 -- what follows a call's letter, whatever the line says
 abbrev pub FollowsCall : Call → List ℕ → Type 0
@@ -92,15 +97,6 @@ follows_call (collect port) tail none = none
 follows_call (time_out port) tail none = none
 follows_call (plan port fates) tail (entries, field, fills) = (entries, fates, field, fills)
 
--- a call that may stand alone has nothing after it
-pub stands_alone : (said : Said) (tail : List ℕ) → Follows said [] → FollowsCall (call_of said) tail → tail ≡ []
-stands_alone (submit port load) tail (digits, field, pairs, is) h = absurd (omega (arith, ap length field))
-stands_alone (send port) tail alone h = h
-stands_alone (receive port) tail alone h = h
-stands_alone (collect port) tail alone h = h
-stands_alone (time_out port) tail alone h = h
-stands_alone (plan port fates) tail (entries, field, fills) h = absurd (omega (arith, ap length field))
-
 -- a line that follows its beginning rightly is what the text says, and nothing else is
 pub says : (line : Line) (call : Call) (port : PortId) (tail : List ℕ) → call_of (said_by line) ≡ call → port_of (said_by line) ≡ port → Follows (said_by line) tail → Reads (head_of call port ++ tail) (Ok line)
 says line call port tail is at follows = (
@@ -115,6 +111,7 @@ pub says_nothing : (call : Call) (port : PortId) (tail : List ℕ) → (FollowsC
 says_nothing call port tail not said (rest, e, g) =
     not (subst (FollowsCall call) (sym (ap (drop 3) e)) (subst (λ k. FollowsCall k rest) (sym (same_call _ _ _ _ _ _ e)) (follows_call said rest g)))
 
--- what is read after one call's letter is read after the letter of the same call
-pub at_call : {call same : Call} (port : PortId) (tail : List ℕ) (r : Result Line ReadError) → call ≡ same → Reads (head_of same port ++ tail) r → Reads (head_of call port ++ tail) r
-at_call port tail r e h = subst (λ call. Reads (head_of call port ++ tail) r) (sym e) h
+-- where a step failed, what holds of its error holds of the result
+pub failed : {A E : Type 0} (P : Result A E → Type 0) (r : Result A E) (e : E) → IsErrAnd r (λ x. x ≡ e) → P (Err e) → P r
+failed P (Ok a) e none holds = absurd none
+failed P (Err x) e is holds = subst (λ x. P (Err x)) (sym is) holds

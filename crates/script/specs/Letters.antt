@@ -1,5 +1,5 @@
 -- The letters by which scripts and printed lines name a call, a port and the fate of a frame.
-use Rattle.std.specs.Prelude.{◌≡◌, ℕ, Some, None, Option, ◌≢◌}
+use Rattle.std.specs.Prelude.{ℕ}
 use Rattle.rules.specs.declared.state.PortId.{PortId}
 use Rattle.rules.specs.declared.state.PortId.TheVariants.{A, B}
 use Rattle.lane.specs.declared.noisy.Fate.{Fate}
@@ -26,12 +26,3 @@ abbrev pub fate_letter : Fate → ℕ
 fate_letter Keep = 107
 fate_letter Lose = 108
 fate_letter Spoil = 115
-
--- A letter names the thing whose letter it is, and nothing where no thing has that letter.
-abbrev pub Names : {A : Type 0} → (A → ℕ) → ℕ → Option A → Type 0
-Names {A} letter_of letter (Some thing) = letter_of thing ≡ letter
-Names {A} letter_of letter None = (thing : A) → letter_of thing ≢ letter
-
--- Nothing else has this letter.
-abbrev pub Only : {A : Type 0} → (A → ℕ) → A → ℕ → Type 0
-Only {A} letter_of thing letter = (other : A) → letter_of other ≡ letter → other ≡ thing

@@ -1,6 +1,5 @@
 -- The lines of a script. Each ends with a line feed, byte 10, which the last may lack.
-use Rattle.std.specs.Prelude.{◌≡◌, ℕ, ◌<◌, cond, ◌⊎◌, List, [], ◌∷◌, ◌++◌, length, Some, None, Option, ◌==◌, ◌≢◌}
-use Rattle.std.specs.List.{flat_map, AllByRecursion}
+use Rattle.std.specs.Prelude.{◌≡◌, ℕ, ◌<◌, if◌then◌else◌, ◌⊎◌, List, [], ◌∷◌, ◌++◌, length, Some, None, Option, ◌==◌, ◌≢◌, All, flat_map}
 use Rattle.script.specs.declared.lines.FirstLine.{FirstLine}
 
 -- One more byte in front of the first line.
@@ -11,7 +10,7 @@ before c (l ∷ ls) = (c ∷ l) ∷ ls
 -- The lines, without their line feeds.
 unfoldable pub lines_of : List ℕ → List (List ℕ)
 lines_of [] = []
-lines_of (c ∷ cs) = cond (c == 10) ([] ∷ lines_of cs) (before c (lines_of cs))
+lines_of (c ∷ cs) = if c == 10 then [] ∷ lines_of cs else before c (lines_of cs)
 
 -- A line with its line feed.
 abbrev pub ended : List ℕ → List ℕ
@@ -19,13 +18,13 @@ ended line = line ++ (10 ∷ [])
 
 -- A line holds no line feed.
 abbrev pub Whole : List ℕ → Type 0
-Whole line = AllByRecursion (λ c. c ≢ 10) line
+Whole line = All (λ c. c ≢ 10) line
 
 -- The lines of a script are those that hold no line feed and, each with its line feed, make up the script;
 -- where the script ends with another byte, they make up the script and one line feed more.
 abbrev pub AreLines : List ℕ → List (List ℕ) → Type 0
 AreLines script lines =
-    AllByRecursion Whole lines × ((flat_map ended lines ≡ script) ⊎ ((front : List ℕ) × (c : ℕ) × (script ≡ front ++ (c ∷ [])) × (c ≢ 10) × (flat_map ended lines ≡ script ++ (10 ∷ []))))
+    All Whole lines × ((flat_map ended lines ≡ script) ⊎ ((front : List ℕ) × (c : ℕ) × (script ≡ front ++ (c ∷ [])) × (c ≢ 10) × (flat_map ended lines ≡ script ++ (10 ∷ []))))
 
 -- The definition gives the lines of a script, and nothing else is.
 abbrev pub LinesStand : List ℕ → Type 0

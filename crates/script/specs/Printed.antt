@@ -1,31 +1,15 @@
 -- The lines that the bench prints, without their line feeds.
 use Rattle.std.specs.Prelude.{ℕ, List, [], ◌∷◌, ◌++◌, codes, decimal}
 use Rattle.refusal.specs.declared.Refusal.TheVariants.{NoSuchLine}
-use Rattle.refusal.specs.Numbers.{number_of}
+use Rattle.refusal.specs.Numbers.{refusal_word}
 use Rattle.rules.specs.declared.state.PortId.{PortId}
-use Rattle.rules.specs.declared.state.Sent.{Sent as SentFrame}
-use Rattle.rules.specs.declared.state.Sent.TheVariants.{Reply, Restart, Request, Packet as PacketSent}
-use Rattle.rules.specs.declared.state.Received.{Received as ReceivedFrame}
-use Rattle.rules.specs.declared.state.Received.TheVariants.{Symbol, Packet, Unsound}
+use Rattle.rules.specs.Words.{sent_word, received_word}
 use Rattle.script.specs.declared.call.Call.{Call}
 use Rattle.script.specs.declared.print.Answer.{Answer}
 use Rattle.script.specs.declared.print.Answer.TheVariants.{Done, Owing, Unchanged, Length, Sent, Received, Refused}
 use Rattle.script.specs.Letters.{call_letter, port_letter}
 
--- The word for what a send put onto the lane.
-abbrev pub sent_word : SentFrame → List ℕ
-sent_word Reply = codes "reply"
-sent_word Restart = codes "restart"
-sent_word Request = codes "request"
-sent_word PacketSent = codes "packet"
-
--- The word for what a receive found.
-abbrev pub received_word : ReceivedFrame → List ℕ
-received_word Symbol = codes "symbol"
-received_word Packet = codes "packet"
-received_word Unsound = codes "unsound"
-
--- The word for each answer: a refusal is `no-` and its number.
+-- The word for each answer: a length is its number.
 abbrev pub word_of : Answer → List ℕ
 word_of Done = codes "ok"
 word_of Owing = codes "owing"
@@ -33,7 +17,7 @@ word_of Unchanged = codes "none"
 word_of (Length length) = decimal length
 word_of (Sent frame) = sent_word frame
 word_of (Received frame) = received_word frame
-word_of (Refused refusal) = codes "no-" ++ decimal (number_of refusal)
+word_of (Refused refusal) = refusal_word refusal
 
 -- Five fields in one line, parted by tabs.
 abbrev pub parted : List ℕ → List ℕ → List ℕ → List ℕ → List ℕ → List ℕ

@@ -1,7 +1,6 @@
 -- How a line is written, and what it is to read one. Fields are parted by a tab, byte 9.
-use Rattle.std.specs.Prelude.{◌≡◌, ℕ, ◌+◌, ◌-◌, ◌*◌, ◌%◌, ◌<◌, ◌≤◌, List, [], ◌∷◌, ◌++◌, map, length, replicate, Ok, Err, Result}
+use Rattle.std.specs.Prelude.{◌≡◌, ℕ, ◌+◌, ◌-◌, ◌*◌, ◌%◌, ◌<◌, ◌≤◌, List, [], ◌∷◌, ◌++◌, map, length, replicate, All, Ok, Err, Result}
 use Rattle.std.specs.Char.{digit_value}
-use Rattle.std.specs.List.{AllByRecursion}
 use Rattle.refusal.specs.declared.Refusal.TheVariants.{NoSuchLine}
 use Rattle.lane.specs.declared.noisy.Fate.{Fate}
 use Rattle.lane.specs.declared.noisy.Fate.TheVariants.{Keep}
@@ -22,7 +21,7 @@ bytes_of (high ∷ low ∷ digits) = (digit_value high * 16 + digit_value low) �
 
 -- A load is written as pairs of hexadecimal digits, each digit in either case.
 abbrev pub Pairs : List ℕ → Type 0
-Pairs digits = (length digits % 2 ≡ 0) × AllByRecursion (λ d. digit_value d < 16) digits
+Pairs digits = (length digits % 2 ≡ 0) × All (λ d. digit_value d < 16) digits
 
 -- A plan has 1 to 64 entries, and keeps every frame after them.
 abbrev pub Fills : List Fate → List Fate → Type 0

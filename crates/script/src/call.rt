@@ -1,11 +1,15 @@
 // The calls that a script makes, and the letters of calls, ports and fates.
-ghost use Rattle.std.specs.Prelude.{◌≡◌};
-ghost use Rattle.script.specs.Letters.{call_letter, port_letter, fate_letter, Names, Only};
+ghost use Rattle.std.specs.Prelude.{◌≡◌, ℕ, IfErr};
+ghost use Rattle.refusal.specs.declared.Refusal.TheVariants.{NoSuchLine};
+ghost use Rattle.refusal.specs.Naming.{Names, Tells};
+ghost use Rattle.script.specs.Letters.{call_letter, port_letter, fate_letter};
 
 use lane::noisy::Fate;
+use refusal::Refusal;
 use rules::state::PortId;
 
-// What a line of a script does at a port.
+// What a line of a script does at a port. A link has an enum of its own for its five calls: a plan is none of them, and scripts are
+// read without a link.
 #[derive(Clone, Copy, Debug, PartialEq, Eq)]
 pub enum Call {
     // seal a load and hold the packet
@@ -22,11 +26,24 @@ pub enum Call {
     Plan,
 }
 
-impl Call {
-    pub fn letter(self) -> char
-        ensures value { result ≡ call_letter self }
-        ensures distinct { Only call_letter self result }
-    {
+// What a letter of a script tells. It is no `From` and `TryFrom`, since two of the three kinds are other crates' types.
+pub trait Letter: Sized {
+    ghost letter_of: { Self → ℕ };
+
+    // The letter, which tells nothing else of this kind.
+    fn letter(self) -> char
+        ensures { Tells letter_of self result };
+
+    // What a letter tells, if it tells one.
+    fn of_letter(letter: char) -> Result<Self, Refusal>
+        ensures told { Names letter_of letter result }
+        ensures refused { IfErr result (λ refusal. refusal ≡ NoSuchLine) };
+}
+
+impl Letter for Call {
+    ghost letter_of = { call_letter };
+
+    fn letter(self) -> char {
         match self {
             Call::Submit => 'h',
             Call::Send => 's',
@@ -37,51 +54,55 @@ impl Call {
         }
     }
 
-    // The call that a letter tells, if it tells one.
-    pub fn of_letter(letter: char) -> Option<Call>
-        ensures { Names call_letter letter result }
-    {
+    fn of_letter(letter: char) -> Result<Call, Refusal> {
         match letter {
-            'h' => Some(Call::Submit),
-            's' => Some(Call::Send),
-            'r' => Some(Call::Receive),
-            'c' => Some(Call::Collect),
-            'o' => Some(Call::TimeOut),
-            'p' => Some(Call::Plan),
-            _ => None,
+            'h' => Ok(Call::Submit),
+            's' => Ok(Call::Send),
+            'r' => Ok(Call::Receive),
+            'c' => Ok(Call::Collect),
+            'o' => Ok(Call::TimeOut),
+            'p' => Ok(Call::Plan),
+            _ => Err(Refusal::NoSuchLine),
         }
     }
 }
 
-pub(crate) fn port_letter(port: PortId) -> char
-    ensures value { result ≡ port_letter port }
-    ensures distinct { Only port_letter port result }
-{
-    match port {
-        PortId::A => 'a',
-        PortId::B => 'b',
+impl Letter for PortId {
+    ghost letter_of = { port_letter };
+
+    fn letter(self) -> char {
+        match self {
+            PortId::A => 'a',
+            PortId::B => 'b',
+        }
+    }
+
+    fn of_letter(letter: char) -> Result<PortId, Refusal> {
+        match letter {
+            'a' => Ok(PortId::A),
+            'b' => Ok(PortId::B),
+            _ => Err(Refusal::NoSuchLine),
+        }
     }
 }
 
-// The port that a letter tells, if it tells one.
-pub(crate) fn port_of(letter: char) -> Option<PortId>
-    ensures { Names port_letter letter result }
-{
-    match letter {
-        'a' => Some(PortId::A),
-        'b' => Some(PortId::B),
-        _ => None,
-    }
-}
+impl Letter for Fate {
+    ghost letter_of = { fate_letter };
 
-// The fate that a letter of a plan tells, if it tells one.
-pub(crate) fn fate_of(letter: char) -> Option<Fate>
-    ensures { Names fate_letter letter result }
-{
-    match letter {
-        'k' => Some(Fate::Keep),
-        'l' => Some(Fate::Lose),
-        's' => Some(Fate::Spoil),
-        _ => None,
+    fn letter(self) -> char {
+        match self {
+            Fate::Keep => 'k',
+            Fate::Lose => 'l',
+            Fate::Spoil => 's',
+        }
+    }
+
+    fn of_letter(letter: char) -> Result<Fate, Refusal> {
+        match letter {
+            'k' => Ok(Fate::Keep),
+            'l' => Ok(Fate::Lose),
+            's' => Ok(Fate::Spoil),
+            _ => Err(Refusal::NoSuchLine),
+        }
     }
 }

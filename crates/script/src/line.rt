@@ -6,7 +6,8 @@ use crate::call::Call;
 use lane::noisy::Fate;
 use rules::state::PortId;
 
-// A call at a port: with the load to submit, or with the plan for the lane that the port writes.
+// A call at a port: with the load to submit, or with the plan for the lane that the port writes. A plan has 64 entries always,
+// and is no list that grows.
 #[derive(Debug, Drop)]
 pub enum Line {
     Submit(PortId, Vec<u8>),

@@ -1,6 +1,7 @@
 // A script cut into its lines.
-ghost use Rattle.std.specs.Prelude.{◌≡◌, ℕ, ◌<◌, ◌≤◌, length, ◌≢◌, slice_index};
-ghost use Rattle.script.specs.Lines.{LinesStand, CutsFirst};
+ghost use Rattle.std.specs.Prelude.{◌≡◌, ◌==◌, position};
+ghost use Rattle.std.specs.Iterator.{YieldsFirstRef, item_count};
+ghost use Rattle.script.specs.Lines.{LinesStand, CutsFirst, lines_of};
 
 // The first line of a script, without its line feed, and what follows it.
 #[derive(Clone, Copy, Debug)]
@@ -9,18 +10,11 @@ pub struct FirstLine<'a> {
     pub rest: &'a [u8],
 }
 
-// Where the first line feed stands, or the script's length where there is none.
-fn line_end(script: &[u8]) -> usize
-    ensures within { result ≤ length script.now }
-    ensures before { (k : ℕ) → k < result → slice_index script.now k ≢ 10 }
-    ensures found { result < length script.now → slice_index script.now result ≡ 10 }
+// Where the first line feed stands, if there is one.
+fn line_end(script: &[u8]) -> Option<usize>
+    ensures { result ≡ position (λ c. c == 10) script.now }
 {
-    for (i, byte) in script.iter().enumerate() {
-        if *byte == b'\n' {
-            return i;
-        }
-    }
-    script.len()
+    script.iter().position(|byte| *byte == b'\n')
 }
 
 // Cuts the first line off a script that has one.
@@ -31,12 +25,43 @@ pub fn first_line<'a>(script: &'a [u8]) -> Option<FirstLine<'a>>
     if script.is_empty() {
         return None;
     }
-    let end = line_end(script);
-    let line = &script[0..end];
-    let rest = if end < script.len() {
-        &script[end + 1..]
-    } else {
-        &script[end..]
-    };
-    Some(FirstLine { line, rest })
+    Some(match line_end(script) {
+        Some(end) => FirstLine {
+            line: &script[..end],
+            rest: &script[end + 1..],
+        },
+        None => FirstLine {
+            line: script,
+            rest: &[],
+        },
+    })
+}
+
+// The lines of a script, one after another, without their line feeds.
+#[derive(Clone, Copy, Debug)]
+pub struct Lines<'a> {
+    script: &'a [u8],
+}
+
+impl<'a> Lines<'a> {
+    // All lines of a script.
+    pub fn of(script: &'a [u8]) -> Lines<'a>
+        ensures { result.script.now ≡ script.now }
+    {
+        Lines { script }
+    }
+}
+
+impl<'a> Iterator for Lines<'a> {
+    type Item = &'a [u8];
+
+    ghost next_gives = { YieldsFirstRef (λ lines. lines_of lines.script.now) };
+
+    ghost remaining = { item_count (λ lines. lines_of lines.script.now) };
+
+    fn next(&mut self) -> Option<&'a [u8]> {
+        let first = first_line(self.script)?;
+        self.script = first.rest;
+        Some(first.line)
+    }
 }

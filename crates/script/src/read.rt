@@ -1,13 +1,13 @@
 // Reading one line of a script.
-ghost use Rattle.std.specs.Prelude.{◌≡◌, ◌<◌, T, [], ◌++◌, IfOk};
+ghost use Rattle.std.specs.Prelude.{◌≡◌, ◌<◌, ◌↔◌, [], ◌++◌, All, IfOk, IsTrue};
 ghost use Rattle.std.specs.Char.{digit_value};
-ghost use Rattle.std.specs.List.{AllByRecursion};
 ghost use Rattle.script.specs.declared.call.Call.TheVariants.{Submit, Plan};
+ghost use Rattle.script.specs.declared.read.ReadError.TheVariants.{Refused, Memory};
 ghost use Rattle.script.specs.Parts.{Begins, Parts, Plans};
 ghost use Rattle.script.specs.Reading.{bytes_of, Pairs, head_of, Follows, Reads};
 ghost use Rattle.script.specs.Said.{said_by, call_of, port_of};
 
-use crate::call::{Call, fate_of, port_of};
+use crate::call::{Call, Letter};
 use crate::line::Line;
 use lane::noisy::Fate;
 use refusal::Refusal;
@@ -23,31 +23,30 @@ pub enum ReadError {
     Memory,
 }
 
-// Refused: there is no such line.
-const NO_LINE: ReadError = ReadError::Refused(Refusal::NoSuchLine);
+impl From<Refusal> for ReadError {
+    ghost from_gives = { λ refusal error. error ≡ Refused refusal };
+
+    fn from(refusal: Refusal) -> ReadError {
+        ReadError::Refused(refusal)
+    }
+}
+
+impl From<AllocError> for ReadError {
+    ghost from_gives = { λ _ error. error ≡ Memory };
+
+    fn from(_error: AllocError) -> ReadError {
+        ReadError::Memory
+    }
+}
 
 // Digits are hexadecimal.
 const BASE: u32 = 16;
 
-// Whether a byte is a hexadecimal digit.
-fn is_digit(digit: u8) -> bool
-    ensures yes { T result → digit_value digit < 16 }
-    ensures no { digit_value digit < 16 → T result }
-{
-    (digit as char).to_digit(BASE).is_some()
-}
-
 // Whether each byte is a hexadecimal digit.
 fn are_digits(digits: &[u8]) -> bool
-    ensures yes { T result → AllByRecursion (λ d. digit_value d < 16) digits.now }
-    ensures no { AllByRecursion (λ d. digit_value d < 16) digits.now → T result }
+    ensures { IsTrue result ↔ All (λ d. digit_value d < 16) digits.now }
 {
-    for digit in digits {
-        if !is_digit(*digit) {
-            return false;
-        }
-    }
-    true
+    digits.iter().all(|digit| (*digit as char).is_digit(BASE))
 }
 
 // The value of a hexadecimal digit.
@@ -56,10 +55,7 @@ fn value_of(digit: u8) -> u8
     ensures value { result ≡ digit_value digit }
     ensures within { result < 16 }
 {
-    match (digit as char).to_digit(BASE) {
-        Some(value) => value as u8,
-        None => unreachable(),
-    }
+    (digit as char).to_digit(BASE).unwrap() as u8
 }
 
 // The load that pairs of hexadecimal digits spell.
@@ -68,54 +64,54 @@ fn load_of(heap: Global, digits: &[u8]) -> Result<Vec<u8>, AllocError>
     ensures { IfOk result (λ load. load.items ≡ bytes_of digits.now) }
 {
     let mut load = Vec::new(heap);
-    for i in 0..digits.len() / 2 {
-        load.push(value_of(digits[2 * i]) * 16 + value_of(digits[2 * i + 1]))?;
+    let (pairs, _) = digits.as_chunks::<2>();
+    for [high, low] in pairs {
+        load.push(value_of(*high) * 16 + value_of(*low))?;
     }
     Ok(load)
 }
 
 // The plan that letters spell, where they spell one: the rest keeps.
-fn plan_of(letters: &[u8]) -> Option<[Fate; 64]>
+fn plan_of(letters: &[u8]) -> Result<[Fate; 64], Refusal>
     ensures { Plans letters.now result }
 {
     if letters.is_empty() || letters.len() > 64 {
-        return None;
+        return Err(Refusal::NoSuchLine);
     }
     let mut plan = [Fate::Keep; 64];
+    // by index: of an array that `iter_mut` went over the check knows no more than the length
     for (i, letter) in letters.iter().enumerate() {
-        match fate_of(*letter as char) {
-            Some(fate) => plan[i] = fate,
-            None => return None,
-        }
+        plan[i] = Fate::of_letter(*letter as char)?;
     }
-    Some(plan)
+    Ok(plan)
 }
 
-// The call and the port with which a line begins.
+// The call and the port with which a line begins, and what follows them.
 #[derive(Clone, Copy)]
-struct Head {
+struct Head<'a> {
     call: Call,
     port: PortId,
+    tail: &'a [u8],
 }
 
-fn head_of(line: &[u8]) -> Option<Head>
+fn head_of<'a>(line: &'a [u8]) -> Result<Head<'a>, Refusal>
     ensures { Begins line.now result }
 {
-    let [letter, b'\t', port, ..] = line else {
-        return None;
+    let [letter, b'\t', port, tail @ ..] = line else {
+        return Err(Refusal::NoSuchLine);
     };
     let call = Call::of_letter(*letter as char)?;
-    let port = port_of(*port as char)?;
-    Some(Head { call, port })
+    let port = PortId::of_letter(*port as char)?;
+    Ok(Head { call, port, tail })
 }
 
 // The field that a tab parts from what stands before it.
-fn field_of<'a>(tail: &'a [u8]) -> Option<&'a [u8]>
+fn field_of<'a>(tail: &'a [u8]) -> Result<&'a [u8], Refusal>
     ensures { Parts tail.now result }
 {
     match tail {
-        [b'\t', field @ ..] => Some(field),
-        _ => None,
+        [b'\t', field @ ..] => Ok(field),
+        _ => Err(Refusal::NoSuchLine),
     }
 }
 
@@ -123,29 +119,20 @@ fn field_of<'a>(tail: &'a [u8]) -> Option<&'a [u8]>
 fn submit_line(heap: Global, port: PortId, tail: &[u8]) -> Result<Line, ReadError>
     ensures { Reads (head_of Submit port ++ tail.now) result }
 {
-    let Some(digits) = field_of(tail) else {
-        return Err(NO_LINE);
-    };
+    let digits = field_of(tail)?;
     if digits.len() % 2 != 0 || !are_digits(digits) {
-        return Err(NO_LINE);
+        return Err(ReadError::Refused(Refusal::NoSuchLine));
     }
-    match load_of(heap, digits) {
-        Ok(load) => Ok(Line::Submit(port, load)),
-        Err(_) => Err(ReadError::Memory),
-    }
+    let load = load_of(heap, digits)?;
+    Ok(Line::Submit(port, load))
 }
 
 // The line with the plan that stands in the field after `tail`'s tab.
 fn plan_line(port: PortId, tail: &[u8]) -> Result<Line, ReadError>
     ensures { Reads (head_of Plan port ++ tail.now) result }
 {
-    let Some(letters) = field_of(tail) else {
-        return Err(NO_LINE);
-    };
-    match plan_of(letters) {
-        Some(plan) => Ok(Line::Plan(port, plan)),
-        None => Err(NO_LINE),
-    }
+    let plan = plan_of(field_of(tail)?)?;
+    Ok(Line::Plan(port, plan))
 }
 
 // A line that needs no field, where none follows.
@@ -156,14 +143,15 @@ fn bare_line(line: Line, tail: &[u8]) -> Result<Line, ReadError>
     if tail.is_empty() {
         Ok(line)
     } else {
-        Err(NO_LINE)
+        Err(ReadError::Refused(Refusal::NoSuchLine))
     }
 }
 
-// The line that begins with the letters of `call` and `port` and goes on with `tail`.
-fn line_from(heap: Global, call: Call, port: PortId, tail: &[u8]) -> Result<Line, ReadError>
-    ensures { Reads (head_of call port ++ tail.now) result }
+// The line with this head.
+fn line_from(heap: Global, head: Head) -> Result<Line, ReadError>
+    ensures { Reads (head_of head.entry.call head.entry.port ++ head.entry.tail.now) result }
 {
+    let Head { call, port, tail } = head;
     match call {
         Call::Submit => submit_line(heap, port, tail),
         Call::Send => bare_line(Line::Send(port), tail),
@@ -178,8 +166,5 @@ fn line_from(heap: Global, call: Call, port: PortId, tail: &[u8]) -> Result<Line
 pub fn read(heap: Global, line: &[u8]) -> Result<Line, ReadError>
     ensures { Reads line.now result }
 {
-    match head_of(line) {
-        Some(head) => line_from(heap, head.call, head.port, &line[3..]),
-        None => Err(NO_LINE),
-    }
+    line_from(heap, head_of(line)?)
 }

@@ -1,7 +1,7 @@
 // Lines cut, read and printed by example.
-use crate::call::Call;
+use crate::call::{Call, Letter};
 use crate::line::Line;
-use crate::lines::first_line;
+use crate::lines::{Lines, first_line};
 use crate::print::{Answer, header, refused_row, row};
 use crate::read::{ReadError, read};
 use lane::noisy::Fate;
@@ -31,6 +31,16 @@ fn scripts_fall_into_lines(rt: HostRuntime) -> Result<(), Fail> {
     ] {
         cuts(&rt, script, line, rest)?;
     }
+    Ok(())
+}
+
+#[test]
+fn lines_come_one_after_another(rt: HostRuntime) -> Result<(), Fail> {
+    let mut lines = Lines::of(b"s\ta\n\nr\tb");
+    for line in ["s\ta", "", "r\tb"] {
+        assert_eq!(rt; lines.next(), Some(line.as_bytes()));
+    }
+    assert!(rt; lines.next().is_none());
     Ok(())
 }
 
@@ -155,6 +165,18 @@ fn answers_are_printed(rt: HostRuntime) -> Result<(), Fail> {
         prints(&rt, rt.alloc(), answer, word)?;
     }
     Ok(())
+}
+
+#[test]
+fn what_calls_answer_is_printed(rt: HostRuntime) -> Result<(), Fail> {
+    let heap = rt.alloc();
+    prints(&rt, heap, Answer::from(Ok(())), "ok")?;
+    prints(&rt, heap, Answer::from(Ok(276usize)), "276")?;
+    prints(&rt, heap, Answer::from(Ok(Sent::Restart)), "restart")?;
+    prints(&rt, heap, Answer::from(Ok(Received::Unsound)), "unsound")?;
+    prints(&rt, heap, Answer::from(Refusal::LaneFull), "no-3")?;
+    let refused: Result<usize, Refusal> = Err(Refusal::Nothing);
+    prints(&rt, heap, Answer::from(refused), "no-4")
 }
 
 #[test]

@@ -1,24 +1,20 @@
-use Rattle.std.proofs.Common.{refl, ap}
-use Rattle.link.specs.declared.call.Call.TheVariants.{Send, Receive, Collect}
+use Rattle.std.proofs.Common.{◌∙◌, sym, ap, subst}
+use Rattle.script.specs.declared.line.Line.{Line}
 use Rattle.script.specs.Said.{said_by}
-use Rattle.script.specs.Said.Said.{send, receive, collect}
-use Rattle.bench.proofs.Played.{bare_played}
+use Rattle.bench.proofs.Played.{Asks, call_played}
 use Rattle.bench.proofs.playing.perform.Goals as goal
+use Rattle.bench.proofs.playing.perform.Goals.{in-Submit, in-Send, in-Receive, in-Collect, in-TimeOut}
 
-pub returns-in-Send : goal.returns-in-Send
-returns-in-Send g c =
-    bare_played g.A.Lane.waiting g.B.Lane.waiting g.A.Lane.limit g.B.Lane.limit _ _ _ _ _ send Send _ c.port-at.result _
-    (ap said_by c.in-Send.is) c.port-at.ensures refl (λ m. m)
-    (c.perform-in-Send.result, c.answer_of-in-Send.ensures, c.perform-in-Send.ensures.performs)
-
-pub returns-in-Receive : goal.returns-in-Receive
-returns-in-Receive g c =
-    bare_played g.A.Lane.waiting g.B.Lane.waiting g.A.Lane.limit g.B.Lane.limit _ _ _ _ _ receive Receive _ c.port-at.result _
-    (ap said_by c.in-Receive.is) c.port-at.ensures refl (λ m. m)
-    (c.perform-in-Receive.result, c.answer_of-in-Receive.ensures, c.perform-in-Receive.ensures.performs)
-
-pub returns-in-Collect : goal.returns-in-Collect
-returns-in-Collect g c =
-    bare_played g.A.Lane.waiting g.B.Lane.waiting g.A.Lane.limit g.B.Lane.limit _ _ _ _ _ collect Collect _ c.port-at.result _
-    (ap said_by c.in-Collect.is) c.port-at.ensures refl (λ m. m)
-    (c.perform-in-Collect.result, c.answer_of-in-Collect.ensures, c.perform-in-Collect.ensures.performs)
+pub returns : goal.returns
+returns g c =
+    let said = said_by c.args.line.now in
+    let call = c.match-line.call.0 in
+    let load = c.match-line.call.1.now in
+    let asks : Asks said call load = elim c.match-line.branch [
+      | in-Submit w ↦ subst (λ (l : Line). Asks (said_by l) call load) (sym w.in-Submit.is) (ap (λ x. x.0) w.call-is, ap (λ x. x.1.now) w.call-is ∙ w.as_slice.ensures.value)
+      | in-Send w ↦ subst (λ (l : Line). Asks (said_by l) call load) (sym w.in-Send.is) (ap (λ x. x.0) w.call-is, ap (λ x. x.1.now) w.call-is)
+      | in-Receive w ↦ subst (λ (l : Line). Asks (said_by l) call load) (sym w.in-Receive.is) (ap (λ x. x.0) w.call-is, ap (λ x. x.1.now) w.call-is)
+      | in-Collect w ↦ subst (λ (l : Line). Asks (said_by l) call load) (sym w.in-Collect.is) (ap (λ x. x.0) w.call-is, ap (λ x. x.1.now) w.call-is)
+      | in-TimeOut w ↦ subst (λ (l : Line). Asks (said_by l) call load) (sym w.in-TimeOut.is) (ap (λ x. x.0) w.call-is, ap (λ x. x.1.now) w.call-is)
+    ] in
+    call_played g.A.Lane.waiting g.B.Lane.waiting g.A.Lane.LIMIT g.B.Lane.LIMIT _ _ _ _ _ said _ call load asks c.port-at.ensures (c.perform.result, c.answer_of.ensures, c.perform.ensures.performs)

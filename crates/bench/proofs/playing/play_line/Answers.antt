@@ -9,8 +9,8 @@ pub returns-in-Ok : goal.returns-in-Ok
 returns-in-Ok g c =
     let wa = g.A.Lane.waiting in
     let wb = g.B.Lane.waiting in
-    let la = g.A.Lane.limit in
-    let lb = g.B.Lane.limit in
+    let la = g.A.Lane.LIMIT in
+    let lb = g.B.Lane.LIMIT in
     let number = c.args.number in
     let text = c.args.text.now in
     let t = c.perform-answer.new.link in

@@ -1,6 +1,5 @@
-use Rattle.std.proofs.Common.{refl}
 use Rattle.link.proofs.Delivering.{starts_delivering}
 use Rattle.link.proofs.Link.new.Goals as goal
 
-pub returns : goal.returns
-returns g c = record { joins = refl; delivery = starts_delivering g.A.Lane.limit g.B.Lane.limit _ }
+pub returns-clause-delivery : goal.returns-clause-delivery
+returns-clause-delivery g c = starts_delivering g.A.Lane.LIMIT g.B.Lane.LIMIT _

@@ -1,9 +1,9 @@
-use Rattle.std.proofs.Common.{◌≡◌, ◌+◌, ◌-◌, ◌<◌, [], length, take, drop, sym, ap, ◌∙◌, arith, true-eqb, false-eqb}
-use Rattle.std.proofs.lemmas.List.{nil_from_length, take_rest, drop_all}
+use Rattle.std.proofs.Common.{◌≡◌, ◌+◌, ◌<◌, [], length, sym, ap, ◌∙◌, arith, true-eqb, false-eqb}
+use Rattle.std.proofs.lemmas.List.{nil_from_length, take_rest}
 use Rattle.script.specs.Lines.{lines_of}
-use Rattle.script.proofs.Cuts.{lines_none, cut_at, lines_stand}
+use Rattle.script.proofs.Cuts.{lines_none, cut_found, cut_none, lines_stand}
 use Rattle.script.proofs.lines.first_line.Goals as goal
-use Rattle.script.proofs.lines.first_line.Goals.{then-end-script, else-end-script}
+use Rattle.script.proofs.lines.first_line.Goals.{in-Some, in-None}
 
 pub returns-then-is_empty : goal.returns-then-is_empty
 returns-then-is_empty c =
@@ -13,14 +13,10 @@ returns-then-is_empty c =
 pub returns : goal.returns
 returns c =
     let s = c.args.script.now in
-    let n = c.line_end-end.result in
-    let told = c.line_end-end.ensures in
-    let some : 0 < length s = omega (arith, false-eqb) in
-    let rest = c.if-end-script.rest.now in
-    let back : rest ≡ drop (n + 1) s = elim c.if-end-script.branch [
-      | then-end-script w ↦ ap (λ r. r.now) w.rest-is ∙ take_rest s (n + 1)
-      | else-end-script w ↦
-          ap (λ r. r.now) w.rest-is ∙ take_rest s n ∙ drop_all n s (omega arith) ∙ sym (drop_all (n + 1) s (omega arith))
-    ] in
-    let whole : n - 0 ≡ n = omega arith in
-    record { cut = cut_at s _ rest n some told.within told.before told.found (ap (λ k. take k s) whole) back; lines = lines_stand s }
+    let some : 0 < length s = omega (arith, false-eqb) in record {
+      cut = elim c.match-line_end.branch [
+        | in-Some w ↦ cut_found s _ _ w.in-Some.end (sym w.in-Some.ensures) (ap (λ r. r.line.now) w.result-is) (ap (λ r. r.rest.now) w.result-is ∙ take_rest s (w.in-Some.end + 1))
+        | in-None w ↦ cut_none s _ _ some (sym w.in-None.ensures) (ap (λ r. r.line.now) w.result-is) (ap (λ r. r.rest.now) w.result-is)
+      ];
+      lines = lines_stand s;
+    }

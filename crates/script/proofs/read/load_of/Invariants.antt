@@ -1,7 +1,7 @@
-use Rattle.std.proofs.Common.{◌≡◌, ◌*◌, ◌++◌, drop, vec_items}
-use Rattle.script.specs.Reading.{bytes_of}
+use Rattle.std.proofs.Common.{◌≡◌, map, take, vec_items}
+use Rattle.script.proofs.Spelt.{byte_of}
 use Rattle.script.proofs.read.load_of.Given as goal
 
--- what is pushed, and what is still spelt, make up the load
-abbrev pub invariant-loop-i : goal.invariant-loop-i
-invariant-loop-i l = vec_items l.load ++ bytes_of (drop (2 * l.i) l.digits) ≡ bytes_of l.digits
+-- the pairs so far are spelt
+abbrev pub invariant-loop-high : goal.invariant-loop-high
+invariant-loop-high l = vec_items l.load ≡ map byte_of (take l.high-index l.pairs)

@@ -1,18 +1,19 @@
-use Rattle.std.proofs.Common.{◌∷◌, drop, sym, refl, ap, ◌∙◌}
+use Rattle.std.proofs.Common.{◌∷◌, ◌++◌, drop, sym, refl, ap, ◌∙◌}
 use Rattle.script.specs.declared.call.Call.TheVariants.{Plan as PlanCall}
 use Rattle.script.specs.declared.line.Line.TheVariants.{Plan}
-use Rattle.script.proofs.Texts.{says, says_nothing}
+use Rattle.script.specs.Reading.{head_of, Reads}
+use Rattle.script.proofs.Texts.{says, says_nothing, failed}
 use Rattle.script.proofs.read.plan_line.Goals as goal
 
-pub returns-in-Some-plan_of : goal.returns-in-Some-plan_of
-returns-in-Some-plan_of c =
+pub returns-in_err-plan : goal.returns-in_err-plan
+returns-in_err-plan c =
     let port = c.args.port in
-    let (entries, letters, fills) = c.in-Some-plan_of.ensures in
-    says (Plan port c.in-Some-plan_of.plan) PlanCall port c.args.tail.now refl refl (entries, c.in-Some.ensures ∙ ap (λ l. 9 ∷ l) letters, fills)
+    let tail = c.args.tail.now in
+    failed (Reads (head_of PlanCall port ++ tail)) c.from_residual-in_err-plan.result _ c.from_residual-in_err-plan.ensures.1
+    (c.in_err-plan.ensures.0, says_nothing PlanCall port tail (λ (entries, fates, field, fills). c.in_err-plan.ensures.1 entries fates (ap (drop 1) (sym c.in_ok-field_of.ensures ∙ field)) fills))
 
-pub returns-in-None : goal.returns-in-None
-returns-in-None c = (
-  refl,
-  says_nothing PlanCall c.args.port c.args.tail.now
-      (λ (entries, fates, field, fills). c.in-None.ensures entries fates (ap (drop 1) (sym c.in-Some.ensures ∙ field)) fills),
-)
+pub returns : goal.returns
+returns c =
+    let port = c.args.port in
+    let (entries, letters, fills) = c.in_ok-plan.ensures in
+    says (Plan port c.in_ok-plan.plan) PlanCall port c.args.tail.now refl refl (entries, c.in_ok-field_of.ensures ∙ ap (λ l. 9 ∷ l) letters, fills)

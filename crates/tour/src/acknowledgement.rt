@@ -1,7 +1,8 @@
 // An acknowledgement is written as a control symbol, read back, spoiled on the way, and refused.
-ghost use Rattle.std.specs.Prelude.{◌≡◌, ◌<◌};
+ghost use Rattle.std.specs.Prelude.{◌≡◌};
 ghost use Rattle.tour.specs.Acknowledgement.{accepted_of};
 
+use crate::frames::show;
 use refusal::Refusal;
 use std::io;
 use symbol::Symbol;
@@ -12,13 +13,13 @@ use symbol::codes::{Stype0, Stype1};
 pub(crate) fn accepted(ack_id: u8) -> Symbol
     ensures { result ≡ accepted_of ack_id }
 {
-    Symbol {
-        stype0: Stype0::Accepted.code(),
-        parameter0: ack_id,
-        parameter1: 31,
-        stype1: Stype1::Nop.code(),
-        cmd: Stype1::Nop.cmd(),
-    }
+    Symbol::of(Stype0::Accepted, ack_id, 31, Stype1::Nop)
+}
+
+pub(crate) fn written(symbol: Symbol) -> Result<[u8; 3], Refusal> {
+    let mut bytes = [0; 3];
+    symbol.write(&mut bytes)?;
+    Ok(bytes)
 }
 
 fn show_fields(rt: &impl Print, step: &str, s: Symbol) -> io::Result<()> {
@@ -40,22 +41,11 @@ fn show_bytes(rt: &impl Print, step: &str, bytes: [u8; 3]) -> io::Result<()> {
 }
 
 fn show_read(rt: &impl Print, step: &str, read: Result<Symbol, Refusal>) -> io::Result<()> {
-    match read {
-        Ok(s) => show_fields(rt, step, s),
-        Err(refusal) => {
-            let number = refusal.number();
-            println!(rt; "{step}: refused with {number}")
-        }
-    }
+    show(rt, step, read, |symbol| show_fields(rt, step, symbol))
 }
 
-// Writes the symbol, reads it back, and reads it once more with a bit of its first byte turned.
-fn there_and_back(rt: &impl Print, s: Symbol) -> io::Result<()> {
-    show_fields(rt, "an acknowledgement", s)?;
-    let mut bytes = [0; 3];
-    if let Err(refusal) = s.write(&mut bytes) {
-        return show_read(rt, "written", Err(refusal));
-    }
+// Reads a written symbol back, and once more with a bit of its first byte turned.
+fn read_back(rt: &impl Print, mut bytes: [u8; 3]) -> io::Result<()> {
     show_bytes(rt, "written", bytes)?;
     show_read(rt, "read back", Symbol::read(&bytes))?;
     bytes[0] ^= 1;
@@ -64,11 +54,12 @@ fn there_and_back(rt: &impl Print, s: Symbol) -> io::Result<()> {
 }
 
 pub(crate) fn tour(rt: &impl Print) -> io::Result<()> {
-    there_and_back(rt, accepted(5))?;
+    show_fields(rt, "an acknowledgement", accepted(5))?;
+    show(rt, "written", written(accepted(5)), |bytes| {
+        read_back(rt, bytes)
+    })?;
     show_fields(rt, "a number too wide", accepted(32))?;
-    let mut bytes = [0; 3];
-    match accepted(32).write(&mut bytes) {
-        Ok(()) => show_bytes(rt, "written", bytes),
-        Err(refusal) => show_read(rt, "written", Err(refusal)),
-    }
+    show(rt, "written", written(accepted(32)), |bytes| {
+        show_bytes(rt, "written", bytes)
+    })
 }

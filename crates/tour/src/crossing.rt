@@ -1,33 +1,43 @@
 // A packet and a symbol cross a noisy lane twice each: one crossing is lost, and one is spoiled.
-use crate::acknowledgement::accepted;
-use crate::frames::{show_kind, show_refusal};
-use crate::strip::load;
+use crate::acknowledgement::{accepted, written};
+use crate::frames::{show, show_kind};
+use crate::strip::sealed;
 use lane::carrying::carry;
 use lane::noisy::{Fate, Noisy};
 use lane::steady::Steady;
 use lane::{FRAME, Lane};
-use packet::sealing::seal;
+use refusal::Refusal;
 use std::io;
 
 // Puts a frame, and prints how many wait then.
 fn put<L: Lane>(rt: &impl Print, step: &str, lane: &mut L, frame: &[u8]) -> io::Result<()> {
-    match lane.put(frame) {
-        Ok(()) => {
-            let n = frame.len();
-            let waiting = lane.count();
-            println!(rt; "{step} of {n} bytes is put: {waiting} waiting")
-        }
-        Err(refusal) => show_refusal(rt, step, refusal),
-    }
+    show(rt, step, lane.put(frame), |()| {
+        println!(rt;
+            "{step} of {} bytes is put: {} waiting",
+            frame.len(),
+            lane.count()
+        )
+    })
+}
+
+// Carries the oldest frame on to another lane, and answers it.
+fn carried<'b, A: Lane, B: Lane>(
+    from: &mut A,
+    to: &mut B,
+    buffer: &'b mut [u8],
+) -> Result<&'b [u8], Refusal> {
+    let n = carry(from, to, buffer)?;
+    Ok(&buffer[..n])
 }
 
 // Carries the oldest frame on to another lane, and prints what it is.
 fn carry_on<A: Lane, B: Lane>(rt: &impl Print, from: &mut A, to: &mut B) -> io::Result<()> {
-    let mut buffer = [0; FRAME];
-    match carry(from, to, &mut buffer) {
-        Ok(n) => show_kind(rt, "carried on", &buffer[0..n]),
-        Err(refusal) => show_refusal(rt, "carried on", refusal),
-    }
+    show(
+        rt,
+        "carried on",
+        carried(from, to, &mut [0; FRAME]),
+        |frame| { show_kind(rt, "carried on", frame) },
+    )
 }
 
 // Sends both frames twice over a lane that keeps the first, loses the second, spoils the third and keeps the fourth.
@@ -46,13 +56,9 @@ fn cross(rt: &impl Print, packet: &[u8], symbol: &[u8]) -> io::Result<()> {
 }
 
 pub(crate) fn tour(rt: &impl Print) -> io::Result<()> {
-    let mut symbol = [0; 3];
-    if let Err(refusal) = accepted(5).write(&mut symbol) {
-        return show_refusal(rt, "written", refusal);
-    }
-    let mut buffer = [0; FRAME];
-    match seal(&load(), &mut buffer) {
-        Ok(n) => cross(rt, &buffer[0..n], &symbol),
-        Err(refusal) => show_refusal(rt, "sealed", refusal),
-    }
+    show(rt, "written", written(accepted(5)), |symbol| {
+        show(rt, "sealed", sealed(&mut [0; FRAME]), |packet| {
+            cross(rt, packet, &symbol)
+        })
+    })
 }

@@ -3,9 +3,19 @@ use packet::frame::{Kind, classify};
 use refusal::Refusal;
 use std::io;
 
-pub(crate) fn show_refusal(rt: &impl Print, step: &str, refusal: Refusal) -> io::Result<()> {
-    let number = refusal.number();
-    println!(rt; "{step}: refused with {number}")
+// What a step came to, shown by `shown`, or the number by which it was refused.
+pub(crate) fn show<T, F: FnOnce(T) -> io::Result<()>>(
+    rt: &impl Print,
+    step: &str,
+    outcome: Result<T, Refusal>,
+    shown: F,
+) -> io::Result<()>
+    requires { F.IsAlwaysCallable shown }
+{
+    match outcome {
+        Ok(value) => shown(value),
+        Err(refusal) => println!(rt; "{step}: refused with {}", refusal.number()),
+    }
 }
 
 // What a frame is.
@@ -13,9 +23,6 @@ pub(crate) fn show_kind(rt: &impl Print, step: &str, frame: &[u8]) -> io::Result
     match classify(frame) {
         Kind::Symbol(_) => println!(rt; "{step}: a symbol"),
         Kind::Packet => println!(rt; "{step}: a sound packet"),
-        Kind::Unsound(cause) => {
-            let code = cause.code();
-            println!(rt; "{step}: unsound, cause {code}")
-        }
+        Kind::Unsound(cause) => println!(rt; "{step}: unsound, cause {}", u8::from(cause)),
     }
 }

@@ -1,7 +1,5 @@
 // A strip's load is sealed as a packet, opened again, and found unsound once a byte of it is spoiled.
-ghost use Rattle.std.specs.Prelude.{◌≡◌, ◌≤◌, length};
-
-use crate::frames::{show_kind, show_refusal};
+use crate::frames::{show, show_kind};
 use packet::opening::{Load, open};
 use packet::sealing::{LONGEST, seal};
 use refusal::Refusal;
@@ -13,12 +11,16 @@ const STRIP: usize = 100;
 // A load whose bytes count down from 100.
 pub(crate) fn load() -> [u8; STRIP] {
     let mut bytes = [0; STRIP];
-    let mut next = 100u8;
-    for b in bytes.iter_mut() {
-        *b = next;
-        next = next.saturating_sub(1);
+    for (byte, left) in bytes.iter_mut().zip((1..=100u8).rev()) {
+        *byte = left;
     }
     bytes
+}
+
+// Seals a strip's load, and answers its packet, which stands at the front of the buffer.
+pub(crate) fn sealed(buffer: &mut [u8; LONGEST]) -> Result<&mut [u8], Refusal> {
+    let n = seal(&load(), buffer)?;
+    Ok(&mut buffer[..n])
 }
 
 // The two CRCs stand behind byte 79 and at the end.
@@ -33,14 +35,13 @@ fn show_packet(rt: &impl Print, packet: &[u8]) -> io::Result<()> {
 }
 
 fn show_opened(rt: &impl Print, step: &str, opened: Result<Load<'_>, Refusal>) -> io::Result<()> {
-    match opened {
-        Ok(load) => {
-            let first = load.first.len();
-            let rest = load.rest.len();
-            println!(rt; "{step}: {first} bytes of load and {rest} more")
-        }
-        Err(refusal) => show_refusal(rt, step, refusal),
-    }
+    show(rt, step, opened, |load| {
+        println!(rt;
+            "{step}: {} bytes of load and {} more",
+            load.first.len(),
+            load.rest.len()
+        )
+    })
 }
 
 // What becomes of a sealed strip: it is opened for its length and for another, spoiled, and cut short.
@@ -49,22 +50,19 @@ fn there_and_back(rt: &impl Print, packet: &mut [u8]) -> io::Result<()> {
     show_kind(rt, "as a frame", packet)?;
     show_opened(rt, "opened for 100 bytes", open(packet, STRIP))?;
     show_opened(rt, "opened for 102 bytes", open(packet, STRIP + 2))?;
-    if packet.len() > 50 {
-        packet[50] ^= 0x10;
+    if let Some(byte) = packet.get_mut(50) {
+        *byte ^= 0x10;
     }
     show_kind(rt, "with a bit turned", packet)?;
     show_opened(rt, "opened for 100 bytes", open(packet, STRIP))?;
-    let n = packet.len();
-    if n > 0 {
-        show_kind(rt, "a byte shorter", &packet[0..n - 1])?;
+    match packet.split_last() {
+        Some((_, shorter)) => show_kind(rt, "a byte shorter", shorter),
+        None => Ok(()),
     }
-    Ok(())
 }
 
 pub(crate) fn tour(rt: &impl Print) -> io::Result<()> {
-    let mut buffer = [0; LONGEST];
-    match seal(&load(), &mut buffer) {
-        Ok(n) => there_and_back(rt, &mut buffer[0..n]),
-        Err(refusal) => show_refusal(rt, "sealed", refusal),
-    }
+    show(rt, "sealed", sealed(&mut [0; LONGEST]), |packet| {
+        there_and_back(rt, packet)
+    })
 }

@@ -2,12 +2,14 @@
 // 0xFF, and packets of every length spoiled at each byte in turn. What the port makes of a frame depends on its length alone:
 // on whether it is a symbol's, a packet's or neither.
 use crate::show;
-use crate::stand::{PLACES, Stand, seal};
+use crate::stand::{Stand, seal};
+use crate::tally::Tally;
 use lane::FRAME;
-use port::pending::PendingReply;
-use port::record::WaitingSlot;
+use port::memory::Memory;
 use port::snapshot::Snapshot;
+use refusal::Refusal;
 use rules::state::{Input, Received};
+use script::print::Answer;
 use std::io;
 
 // What a frame's length is the length of.
@@ -28,53 +30,28 @@ fn length_of(n: usize) -> Length {
     }
 }
 
-// What a port made of a frame: its answer, where it stood then, and the cause that it told, or 0 where it told nothing.
-#[derive(Clone, Copy)]
+// What a port made of a frame: its answer, where it stood then, and the cause that it told, if it told one.
+#[derive(Clone, Copy, PartialEq, Eq)]
 struct Made {
-    received: Option<Received>,
+    answer: Result<Received, Refusal>,
     port: Snapshot,
-    cause: u8,
+    cause: Option<u8>,
 }
 
-fn is_same(one: Made, other: Made) -> bool {
-    one.received == other.received && one.port == other.port && one.cause == other.cause
-}
-
-// Frames that were tried: what the first made, how many made the same, and how many something else.
-#[derive(Clone, Copy)]
-struct Tally {
-    first: Option<Made>,
-    same: usize,
-    others: usize,
-}
-
-impl Tally {
-    fn new() -> Tally {
-        Tally {
-            first: None,
-            same: 0,
-            others: 0,
-        }
-    }
-
-    fn count(&mut self, made: Made) {
-        let first = self.first.unwrap_or(made);
-        self.first = Some(first);
-        if is_same(first, made) {
-            self.same = self.same.saturating_add(1);
-        } else {
-            self.others = self.others.saturating_add(1);
-        }
-    }
-
-    fn show(&self, rt: &HostRuntime, frames: &str) -> io::Result<()> {
-        let Some(made) = self.first else {
-            return Ok(());
-        };
-        show::counts(rt, frames, made.cause, self.same, self.others)?;
-        let answer = show::received(made.received.ok_or(refusal::Refusal::Nothing));
-        show::step(rt, "cause told", made.cause, answer, made.port)
-    }
+// What frames that were tried came to; the cause is 0 where none was told.
+fn show_tally(rt: &HostRuntime, frames: &str, tally: Tally<Made>) -> io::Result<()> {
+    let Some(made) = tally.first else {
+        return Ok(());
+    };
+    let cause = made.cause.unwrap_or(0);
+    show::counts(rt, frames, cause, tally.same, tally.others)?;
+    show::step(
+        rt,
+        "cause told",
+        cause,
+        Answer::from(made.answer),
+        made.port,
+    )
 }
 
 // Brings a fresh port's input to a state, with no reply left to send. For a retry nine packets come: eight wait, and the
@@ -97,30 +74,26 @@ fn prepare(stand: &mut Stand, input: Input) {
 
 // What a port whose input is in this state makes of a frame.
 fn made_of(input: Input, frame: &[u8]) -> Made {
-    let mut replies = [PendingReply::unused(); PLACES];
-    let mut records = [WaitingSlot::unused(); PLACES];
-    let mut stand = Stand::new(&mut replies, &mut records);
+    let mut memory = Memory::unused();
+    let mut stand = Stand::of(memory.port());
     prepare(&mut stand, input);
-    let received = stand.receive(frame).ok();
+    let answer = stand.receive(frame);
     let port = stand.port.snapshot();
-    let cause = match stand.tell() {
-        Ok(symbol) => symbol.parameter1,
-        Err(_) => 0,
-    };
+    let cause = stand.tell().ok().map(|symbol| symbol.parameter1);
     Made {
-        received,
+        answer,
         port,
         cause,
     }
 }
 
 // Frames of every length of one class that all have the same bytes.
-fn alike(input: Input, length: Length, byte: u8) -> Tally {
+fn alike(input: Input, length: Length, byte: u8) -> Tally<Made> {
     let bytes = [byte; FRAME];
-    let mut tally = Tally::new();
-    for n in 1..FRAME + 1 {
+    let mut tally = Tally::default();
+    for n in 1..=FRAME {
         if length_of(n) == length {
-            tally.count(made_of(input, &bytes[0..n]));
+            tally.count(made_of(input, &bytes[..n]));
         }
     }
     tally
@@ -128,13 +101,14 @@ fn alike(input: Input, length: Length, byte: u8) -> Tally {
 
 // Turns every bit of a byte.
 fn turn(packet: &mut [u8], i: usize) {
-    if i < packet.len() {
-        packet[i] ^= 0xFF;
+    if let Some(byte) = packet.get_mut(i) {
+        *byte ^= 0xFF;
     }
 }
 
-// A packet, spoiled at each of its bytes in turn.
-fn spoil_each(input: Input, packet: &mut [u8], tally: &mut Tally) {
+// A packet, spoiled at each of its bytes in turn. The whole of it is received while a byte is turned, so no iterator over its
+// bytes can lend that byte.
+fn spoil_each(input: Input, packet: &mut [u8], tally: &mut Tally<Made>) {
     for i in 0..packet.len() {
         turn(packet, i);
         tally.count(made_of(input, packet));
@@ -144,13 +118,13 @@ fn spoil_each(input: Input, packet: &mut [u8], tally: &mut Tally) {
 
 // Packets of every length, spoiled at each byte. Up to 80 bytes two of them are no load, and above that four: a CRC and
 // padding at 84, and two CRCs from 88 on.
-fn spoiled(input: Input) -> Tally {
-    let mut tally = Tally::new();
+fn spoiled(input: Input) -> Tally<Made> {
+    let mut tally = Tally::default();
     for quarter in 2..70usize {
         let more = if quarter <= 20 { 2 } else { 4 };
-        let mut packet = [0; FRAME];
-        let n = seal(quarter * 4 - more, 0, &mut packet);
-        spoil_each(input, &mut packet[0..n.min(FRAME)], &mut tally);
+        if let Ok(packet) = seal(quarter * 4 - more, 0, &mut [0; FRAME]) {
+            spoil_each(input, packet, &mut tally);
+        }
     }
     tally
 }
@@ -166,9 +140,9 @@ fn frames_at(rt: &HostRuntime, title: &str, input: Input) -> io::Result<()> {
         (0, Length::Neither, "bytes 0x00, any other length: cause"),
         (0xFF, Length::Neither, "bytes 0xFF, any other length: cause"),
     ] {
-        alike(input, length, byte).show(rt, frames)?;
+        show_tally(rt, frames, alike(input, length, byte))?;
     }
-    spoiled(input).show(rt, "packets spoiled at each byte: cause")
+    show_tally(rt, "packets spoiled at each byte: cause", spoiled(input))
 }
 
 pub(crate) fn trial(rt: &HostRuntime) -> io::Result<()> {

@@ -1,20 +1,20 @@
 // A port holds 31 packets and not 32: with 32 ackIDs, a response could then mean none of them or all.
 use crate::show;
-use crate::stand::{PLACES, Stand, saying};
-use port::pending::PendingReply;
-use port::record::WaitingSlot;
+use crate::stand::{Stand, saying};
+use port::memory::Memory;
+use script::print::Answer;
 use std::io;
 use symbol::codes::Stype0;
 
 fn submit(rt: &HostRuntime, number: u8, stand: &mut Stand) -> io::Result<()> {
-    let answer = show::done(stand.submit());
+    let answer = Answer::from(stand.submit());
     show::step(rt, "submit", number, answer, stand.port.snapshot())
 }
 
 // One packet is sent and freed.
 fn free_one(rt: &HostRuntime, stand: &mut Stand) -> io::Result<()> {
     let _ = stand.tell();
-    let answer = show::received(stand.hear(saying(Stype0::Accepted, 0, 31)));
+    let answer = Answer::from(stand.hear(saying(Stype0::Accepted, 0, 31)));
     show::step(rt, "receive accepted", 0, answer, stand.port.snapshot())
 }
 
@@ -31,7 +31,5 @@ fn hold(rt: &HostRuntime, stand: &mut Stand) -> io::Result<()> {
 
 pub(crate) fn trial(rt: &HostRuntime) -> io::Result<()> {
     show::title(rt, "holding 32 packets is refused")?;
-    let mut replies = [PendingReply::unused(); PLACES];
-    let mut records = [WaitingSlot::unused(); PLACES];
-    hold(rt, &mut Stand::new(&mut replies, &mut records))
+    hold(rt, &mut Stand::of(Memory::unused().port()))
 }

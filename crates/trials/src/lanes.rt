@@ -1,22 +1,23 @@
 // What a lane refuses, for each kind of lane.
 use crate::refusals::{FILL, is_untouched, room};
 use crate::show;
-use crate::show::ground;
 use lane::noisy::Noisy;
 use lane::steady::Steady;
 use lane::{FRAME, Lane};
+use refusal::Refusal;
+use script::print::Answer;
 use std::io;
 
 // Put: the frame's length, the lane at its limit.
 fn put<L: Lane>(rt: &HostRuntime, lane: &mut L, length: usize) -> io::Result<()> {
     let bytes = [FILL; FRAME + 1];
     let before = lane.count();
-    let answer = show::done(lane.put(&bytes[0..length.min(FRAME + 1)]));
-    let sized = length >= 1 && length <= FRAME;
+    let answer = Answer::from(lane.put(&bytes[..length.min(FRAME + 1)]));
+    let outsized = length < 1 || length > FRAME;
     let grounds = [
-        ground("7", !sized),
-        ground("3", before >= L::limit_of()),
-        "-",
+        outsized.then_some(Refusal::FrameLength),
+        (before >= L::LIMIT).then_some(Refusal::LaneFull),
+        None,
     ];
     show::grounds(rt, "put", grounds, answer, lane.count() == before)
 }
@@ -25,8 +26,12 @@ fn put<L: Lane>(rt: &HostRuntime, lane: &mut L, length: usize) -> io::Result<()>
 fn take<L: Lane>(rt: &HostRuntime, lane: &mut L, short: bool) -> io::Result<()> {
     let mut buffer = [FILL; FRAME];
     let before = lane.count();
-    let answer = show::length(lane.take(room(&mut buffer, short)));
-    let grounds = [ground("6", short), ground("4", before == 0), "-"];
+    let answer = Answer::from(lane.take(room(&mut buffer, short)));
+    let grounds = [
+        short.then_some(Refusal::ShortBuffer),
+        (before == 0).then_some(Refusal::Nothing),
+        None,
+    ];
     let unchanged = lane.count() == before && is_untouched(&buffer);
     show::grounds(rt, "take", grounds, answer, unchanged)
 }
@@ -39,7 +44,7 @@ fn refuses<L: Lane>(rt: &HostRuntime, title: &str, lane: &mut L) -> io::Result<(
     for length in [0, FRAME + 1, 1, FRAME] {
         put(rt, lane, length)?;
     }
-    for _ in 2..L::limit_of() {
+    for _ in 2..L::LIMIT {
         let _ = lane.put(&[0]);
     }
     for length in [0, FRAME + 1, 1, FRAME] {

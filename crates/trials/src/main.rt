@@ -11,6 +11,7 @@ mod refusals;
 mod rewinding;
 mod show;
 mod stand;
+mod tally;
 mod waking;
 
 use std::io;

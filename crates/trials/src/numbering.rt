@@ -1,9 +1,8 @@
 // All five bits of an ackID decide: which packet is taken, and which packet an accepted frees.
 use crate::show;
-use crate::stand::{PLACES, Stand, saying};
+use crate::stand::{Stand, saying};
 use lane::FRAME;
-use port::pending::PendingReply;
-use port::record::WaitingSlot;
+use port::memory::Memory;
 use rules::state::Output;
 use std::io;
 use symbol::Symbol;
@@ -14,9 +13,8 @@ const ACK_IDS: u8 = 32;
 
 // What a port that expects one ackID tells of a packet under another.
 fn told(expected: u8, ack_id: u8) -> Option<Symbol> {
-    let mut replies = [PendingReply::unused(); PLACES];
-    let mut records = [WaitingSlot::unused(); PLACES];
-    let mut stand = Stand::new(&mut replies, &mut records);
+    let mut memory = Memory::unused();
+    let mut stand = Stand::of(memory.port());
     for earlier in 0..expected {
         let _ = stand.offer(earlier);
         let _ = stand.tell();
@@ -26,34 +24,10 @@ fn told(expected: u8, ack_id: u8) -> Option<Symbol> {
     stand.tell().ok()
 }
 
-// Packets under each ackID, at a port that expects one of them: how many were accepted that were to be, and how many were
-// refused as unexpected.
-fn packets(rt: &HostRuntime, expected: u8) -> io::Result<()> {
-    let refusal = saying(Stype0::NotAccepted, expected, Cause::UnexpectedAckId.code());
-    let mut accepted: usize = 0;
-    let mut refused: usize = 0;
-    for ack_id in 0..ACK_IDS {
-        let symbol = told(expected, ack_id);
-        if ack_id == expected && symbol == Some(saying(Stype0::Accepted, ack_id, 31)) {
-            accepted = accepted.saturating_add(1);
-        } else if symbol == Some(refusal) {
-            refused = refused.saturating_add(1);
-        }
-    }
-    show::counts(
-        rt,
-        "packets at a port that expects",
-        expected,
-        accepted,
-        refused,
-    )
-}
-
 // Where an accepted leaves the output of a port that had sent one packet, under the ackID first.
 fn acknowledged(first: u8, ack_id: u8) -> Output {
-    let mut replies = [PendingReply::unused(); PLACES];
-    let mut records = [WaitingSlot::unused(); PLACES];
-    let mut stand = Stand::new(&mut replies, &mut records);
+    let mut memory = Memory::unused();
+    let mut stand = Stand::of(memory.port());
     for earlier in 0..first {
         stand.submit_and_send();
         let _ = stand.hear(saying(Stype0::Accepted, earlier, 31));
@@ -63,20 +37,49 @@ fn acknowledged(first: u8, ack_id: u8) -> Output {
     stand.port.snapshot().output
 }
 
-// An accepted of each ackID, at a port that has sent a packet under one of them: how many freed it that were to, and how
-// many had the port ask where the other stands.
+// Tries each ackID, of which one is right: whether that one came to what it is to, and how many came to what the others are to.
+fn try_each<T: Copy + PartialEq, F: Fn(u8) -> T>(
+    rt: &HostRuntime,
+    what: &str,
+    right: u8,
+    taken: T,
+    refused: T,
+    trial: F,
+) -> io::Result<()>
+    requires { F.IsAlwaysCallable trial }
+{
+    let ones = usize::from(trial(right) == taken);
+    let others = (0..ACK_IDS)
+        .filter(|ack_id| trial(*ack_id) == refused)
+        .count();
+    show::counts(rt, what, right, ones, others)
+}
+
+// Packets under each ackID, at a port that expects one of them: it is accepted, and the others are refused as unexpected.
+fn packets(rt: &HostRuntime, expected: u8) -> io::Result<()> {
+    let accepted = saying(Stype0::Accepted, expected, 31);
+    let refused = saying(Stype0::NotAccepted, expected, Cause::UnexpectedAckId.into());
+    try_each(
+        rt,
+        "packets at a port that expects",
+        expected,
+        Some(accepted),
+        Some(refused),
+        |ack_id| told(expected, ack_id),
+    )
+}
+
+// An accepted of each ackID, at a port that has sent a packet under one of them: it frees that packet, and the others have the
+// port ask where the other stands.
 fn accepteds(rt: &HostRuntime, first: u8) -> io::Result<()> {
-    let mut freed: usize = 0;
-    let mut asked: usize = 0;
-    for ack_id in 0..ACK_IDS {
-        let output = acknowledged(first, ack_id);
-        if ack_id == first && output == Output::Running {
-            freed = freed.saturating_add(1);
-        } else if output == Output::OwingRequest {
-            asked = asked.saturating_add(1);
-        }
-    }
-    show::counts(rt, "accepteds at a port that sent", first, freed, asked)
+    try_each(
+        rt,
+        "accepteds at a port that sent",
+        first,
+        Output::Running,
+        Output::OwingRequest,
+        |ack_id| acknowledged(first, ack_id),
+    )
 }
 
 pub(crate) fn trial(rt: &HostRuntime) -> io::Result<()> {

@@ -1,12 +1,12 @@
 // Each refusal of each call at a port, with every choice of the grounds for it: of several, the one that comes first in the
 // call's order is the answer, and a refused call leaves port, lanes and buffer as they were.
 use crate::show;
-use crate::show::ground;
-use crate::stand::{PLACES, Stand, saying};
+use crate::stand::Stand;
 use lane::{FRAME, Lane};
-use port::pending::PendingReply;
-use port::record::WaitingSlot;
+use port::memory::{Memory, PLACES};
 use port::snapshot::Snapshot;
+use refusal::Refusal;
+use script::print::Answer;
 use std::io;
 use symbol::Symbol;
 use symbol::codes::{Stype0, Stype1};
@@ -15,42 +15,48 @@ use symbol::codes::{Stype0, Stype1};
 pub(crate) const FILL: u8 = 0x5A;
 
 // What a port and its lanes stand at.
-#[derive(Clone, Copy)]
+#[derive(Clone, Copy, PartialEq, Eq)]
 struct Scene {
     port: Snapshot,
-    frames: usize,
+    incoming: usize,
+    out: usize,
 }
 
 fn scene_of(stand: &Stand) -> Scene {
     Scene {
         port: stand.port.snapshot(),
-        frames: stand.incoming.count().saturating_add(stand.out.count()),
+        incoming: stand.incoming.count(),
+        out: stand.out.count(),
     }
-}
-
-// Whether a call left port, lanes and buffer as they were.
-fn is_unchanged(stand: &Stand, before: Scene, buffer: &[u8]) -> bool {
-    let after = scene_of(stand);
-    after.port == before.port && after.frames == before.frames && is_untouched(buffer)
 }
 
 // Whether each byte is still what it was before a call.
 pub(crate) fn is_untouched(buffer: &[u8]) -> bool {
-    for b in buffer {
-        if *b != FILL {
-            return false;
-        }
-    }
-    true
+    buffer.iter().all(|b| *b == FILL)
 }
 
 // A buffer that has room for every frame, or all of it but a byte.
 pub(crate) fn room(buffer: &mut [u8; FRAME], short: bool) -> &mut [u8] {
-    if short {
-        &mut buffer[1..]
-    } else {
-        &mut buffer[0..]
-    }
+    if short { &mut buffer[1..] } else { buffer }
+}
+
+// A call at a port, with a buffer that is short where that is its first ground to be refused: its answer, and whether it left
+// port, lanes and buffer as they were.
+fn make<F: FnOnce(&mut Stand, &mut [u8]) -> Answer>(
+    rt: &HostRuntime,
+    stand: &mut Stand,
+    name: &str,
+    grounds: [Option<Refusal>; 3],
+    call: F,
+) -> io::Result<()>
+    requires { F.IsAlwaysCallable call }
+{
+    let short = grounds[0] == Some(Refusal::ShortBuffer);
+    let before = scene_of(stand);
+    let mut buffer = [FILL; FRAME];
+    let answer = call(stand, room(&mut buffer, short));
+    let unchanged = scene_of(stand) == before && is_untouched(&buffer);
+    show::grounds(rt, name, grounds, answer, unchanged)
 }
 
 // Submit: the load's length, 31 held.
@@ -60,12 +66,15 @@ fn submit(rt: &HostRuntime, stand: &mut Stand, odd: bool, full: bool) -> io::Res
             let _ = stand.submit();
         }
     }
-    let before = scene_of(stand);
-    let load = if odd { &[0; 7][0..] } else { &[0; 8][0..] };
-    let answer = show::done(stand.port.submit(load));
-    let grounds = [ground("1", odd), ground("2", full), "-"];
-    let unchanged = is_unchanged(stand, before, &[]);
-    show::grounds(rt, "submit", grounds, answer, unchanged)
+    let load = if odd { &[0; 7][..] } else { &[0; 8][..] };
+    let grounds = [
+        odd.then_some(Refusal::LoadLength),
+        full.then_some(Refusal::WindowFull),
+        None,
+    ];
+    make(rt, stand, "submit", grounds, |stand, _| {
+        stand.port.submit(load).into()
+    })
 }
 
 // Send: the buffer, nothing due, the lane at its limit.
@@ -84,21 +93,19 @@ fn send(
             let _ = stand.out.put(&[0]);
         }
     }
-    let before = scene_of(stand);
-    let mut buffer = [FILL; FRAME];
-    let answer = show::sent(stand.send_by(room(&mut buffer, short)));
-    let grounds = [ground("6", short), ground("4", nothing), ground("3", full)];
-    let unchanged = is_unchanged(stand, before, &buffer);
-    show::grounds(rt, "send", grounds, answer, unchanged)
+    let grounds = [
+        short.then_some(Refusal::ShortBuffer),
+        nothing.then_some(Refusal::Nothing),
+        full.then_some(Refusal::LaneFull),
+    ];
+    make(rt, stand, "send", grounds, |stand, room| {
+        stand.send_by(room).into()
+    })
 }
 
 // Fills the queue of replies: each request pends a response.
 fn fill_replies(stand: &mut Stand) {
-    let request = Symbol {
-        stype1: Stype1::Request.code(),
-        cmd: Stype1::Request.cmd(),
-        ..saying(Stype0::Status, 0, 31)
-    };
+    let request = Symbol::of(Stype0::Status, 0, 31, Stype1::Request);
     for _ in 0..PLACES {
         let _ = stand.hear(request);
     }
@@ -118,12 +125,14 @@ fn receive(
     if !nothing {
         let _ = stand.incoming.put(&[0]);
     }
-    let before = scene_of(stand);
-    let mut buffer = [FILL; FRAME];
-    let answer = show::received(stand.receive_by(room(&mut buffer, short)));
-    let grounds = [ground("6", short), ground("5", full), ground("4", nothing)];
-    let unchanged = is_unchanged(stand, before, &buffer);
-    show::grounds(rt, "receive", grounds, answer, unchanged)
+    let grounds = [
+        short.then_some(Refusal::ShortBuffer),
+        full.then_some(Refusal::RepliesFull),
+        nothing.then_some(Refusal::Nothing),
+    ];
+    make(rt, stand, "receive", grounds, |stand, room| {
+        stand.receive_by(room).into()
+    })
 }
 
 // Collect: the buffer, nothing waiting.
@@ -131,34 +140,38 @@ fn collect(rt: &HostRuntime, stand: &mut Stand, short: bool, nothing: bool) -> i
     if !nothing {
         let _ = stand.offer(0);
     }
-    let before = scene_of(stand);
-    let mut buffer = [FILL; FRAME];
-    let answer = show::length(stand.port.collect(room(&mut buffer, short)));
-    let grounds = [ground("6", short), ground("4", nothing), "-"];
-    let unchanged = is_unchanged(stand, before, &buffer);
-    show::grounds(rt, "collect", grounds, answer, unchanged)
+    let grounds = [
+        short.then_some(Refusal::ShortBuffer),
+        nothing.then_some(Refusal::Nothing),
+        None,
+    ];
+    make(rt, stand, "collect", grounds, |stand, room| {
+        stand.port.collect(room).into()
+    })
 }
 
-// A call at a fresh port: the grounds that are to hold are the call's first, second and third.
-#[derive(Clone, Copy)]
-enum Call {
-    Submit,
-    Send,
-    Receive,
-    Collect,
+// The calls that have two grounds to be refused, each at a fresh port.
+fn try_two(rt: &HostRuntime, first: bool, second: bool) -> io::Result<()> {
+    submit(rt, &mut Stand::of(Memory::unused().port()), first, second)?;
+    collect(rt, &mut Stand::of(Memory::unused().port()), first, second)
 }
 
-fn make(rt: &HostRuntime, call: Call, grounds: [bool; 3]) -> io::Result<()> {
-    let mut replies = [PendingReply::unused(); PLACES];
-    let mut records = [WaitingSlot::unused(); PLACES];
-    let mut stand = Stand::new(&mut replies, &mut records);
-    let [first, second, third] = grounds;
-    match call {
-        Call::Submit => submit(rt, &mut stand, first, second),
-        Call::Send => send(rt, &mut stand, first, second, third),
-        Call::Receive => receive(rt, &mut stand, first, second, third),
-        Call::Collect => collect(rt, &mut stand, first, second),
-    }
+// Those that have three.
+fn try_three(rt: &HostRuntime, first: bool, second: bool, third: bool) -> io::Result<()> {
+    send(
+        rt,
+        &mut Stand::of(Memory::unused().port()),
+        first,
+        second,
+        third,
+    )?;
+    receive(
+        rt,
+        &mut Stand::of(Memory::unused().port()),
+        first,
+        second,
+        third,
+    )
 }
 
 pub(crate) fn trial(rt: &HostRuntime) -> io::Result<()> {
@@ -168,11 +181,9 @@ pub(crate) fn trial(rt: &HostRuntime) -> io::Result<()> {
     )?;
     for first in [false, true] {
         for second in [false, true] {
-            make(rt, Call::Submit, [first, second, false])?;
-            make(rt, Call::Collect, [first, second, false])?;
+            try_two(rt, first, second)?;
             for third in [false, true] {
-                make(rt, Call::Send, [first, second, third])?;
-                make(rt, Call::Receive, [first, second, third])?;
+                try_three(rt, first, second, third)?;
             }
         }
     }

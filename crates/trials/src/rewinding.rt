@@ -1,8 +1,8 @@
 // A response is measured against the packets ever sent, and not against those sent since the last rewind.
 use crate::show;
-use crate::stand::{PLACES, Stand, saying};
-use port::pending::PendingReply;
-use port::record::WaitingSlot;
+use crate::stand::{Stand, saying};
+use port::memory::Memory;
+use script::print::Answer;
 use std::io;
 use symbol::codes::{Cause, PortStatus, Stype0};
 
@@ -14,18 +14,17 @@ fn prepare(stand: &mut Stand) {
     }
     let _ = stand.hear(saying(Stype0::Retry, 0, 31));
     let _ = stand.tell();
-    let _ = stand.hear(saying(Stype0::NotAccepted, 3, Cause::PacketCheck.code()));
+    let _ = stand.hear(saying(Stype0::NotAccepted, 3, Cause::PacketCheck.into()));
     let _ = stand.tell();
 }
 
 // The response expects this ackID.
 fn respond(rt: &HostRuntime, expected: u8) -> io::Result<()> {
-    let mut replies = [PendingReply::unused(); PLACES];
-    let mut records = [WaitingSlot::unused(); PLACES];
-    let mut stand = Stand::new(&mut replies, &mut records);
+    let mut memory = Memory::unused();
+    let mut stand = Stand::of(memory.port());
     prepare(&mut stand);
-    let response = saying(Stype0::Response, expected, PortStatus::Ready.code());
-    let answer = show::received(stand.hear(response));
+    let response = saying(Stype0::Response, expected, PortStatus::Ready.into());
+    let answer = Answer::from(stand.hear(response));
     show::step(
         rt,
         "receive response",

@@ -1,9 +1,8 @@
 // The lines that the trials print, with answers in the bench's words.
 use port::snapshot::Snapshot;
 use refusal::Refusal;
-use rules::state::{Received, Sent};
 use script::print::Answer;
-use std::io;
+use std::{fmt, io};
 
 // The name of a trial.
 pub(crate) fn title(rt: &HostRuntime, name: &str) -> io::Result<()> {
@@ -32,49 +31,28 @@ pub(crate) fn counts(
     println!(rt; "{what} {number}\t{ones}\t{others}")
 }
 
+// A ground to refuse a call, where it holds.
+#[derive(Clone, Copy)]
+struct Ground(Option<Refusal>);
+
+impl fmt::Display for Ground {
+    fn fmt<W: fmt::Write>(&self, f: &mut fmt::Formatter<W>) -> fmt::Result {
+        match self.0 {
+            Some(refusal) => write!(f, "{}", refusal.number()),
+            None => write!(f, "-"),
+        }
+    }
+}
+
 // What a call answered of which some of three grounds to refuse it held, and whether it left all as it was.
 pub(crate) fn grounds(
     rt: &HostRuntime,
     call: &str,
-    grounds: [&str; 3],
+    grounds: [Option<Refusal>; 3],
     answer: Answer,
     unchanged: bool,
 ) -> io::Result<()> {
-    let [first, second, third] = grounds;
+    let [first, second, third] = grounds.map(Ground);
     let left = if unchanged { "unchanged" } else { "changed" };
     println!(rt; "{call}\t{first}\t{second}\t{third}\t{answer}\t{left}")
-}
-
-// A ground to refuse a call, where it holds.
-pub(crate) fn ground(number: &'static str, holds: bool) -> &'static str {
-    if holds { number } else { "-" }
-}
-
-// The answers of calls as the bench words them.
-pub(crate) fn done(answer: Result<(), Refusal>) -> Answer {
-    match answer {
-        Ok(()) => Answer::Done,
-        Err(refusal) => Answer::Refused(refusal),
-    }
-}
-
-pub(crate) fn length(answer: Result<usize, Refusal>) -> Answer {
-    match answer {
-        Ok(length) => Answer::Length(length),
-        Err(refusal) => Answer::Refused(refusal),
-    }
-}
-
-pub(crate) fn sent(answer: Result<Sent, Refusal>) -> Answer {
-    match answer {
-        Ok(sent) => Answer::Sent(sent),
-        Err(refusal) => Answer::Refused(refusal),
-    }
-}
-
-pub(crate) fn received(answer: Result<Received, Refusal>) -> Answer {
-    match answer {
-        Ok(received) => Answer::Received(received),
-        Err(refusal) => Answer::Refused(refusal),
-    }
 }

@@ -4,15 +4,10 @@ use lane::steady::Steady;
 use lane::{FRAME, Lane};
 use packet::{header, sealing};
 use port::Port;
-use port::pending::PendingReply;
-use port::record::WaitingSlot;
 use refusal::Refusal;
 use rules::state::{Received, Sent};
 use symbol::Symbol;
 use symbol::codes::{Stype0, Stype1};
-
-// The places of each queue.
-pub(crate) const PLACES: usize = 8;
 
 #[derive(Drop)]
 pub(crate) struct Stand<'r, 'w> {
@@ -22,12 +17,10 @@ pub(crate) struct Stand<'r, 'w> {
 }
 
 impl<'r, 'w> Stand<'r, 'w> {
-    pub(crate) fn new(
-        replies: &'r mut [PendingReply],
-        records: &'w mut [WaitingSlot],
-    ) -> Stand<'r, 'w> {
+    // A fresh port with empty lanes.
+    pub(crate) fn of(port: Port<'r, 'w>) -> Stand<'r, 'w> {
         Stand {
-            port: Port::new(replies, records),
+            port,
             incoming: Steady::new(),
             out: Steady::new(),
         }
@@ -58,9 +51,9 @@ impl<'r, 'w> Stand<'r, 'w> {
 
     // The port receives a packet under an ackID.
     pub(crate) fn offer(&mut self, ack_id: u8) -> Result<Received, Refusal> {
-        let mut packet = [0; FRAME];
-        let n = seal(6, ack_id, &mut packet);
-        self.receive(&packet[0..n.min(FRAME)])
+        let mut buffer = [0; FRAME];
+        let packet = seal(6, ack_id, &mut buffer)?;
+        self.receive(packet)
     }
 
     // The port submits a load of six bytes.
@@ -73,7 +66,7 @@ impl<'r, 'w> Stand<'r, 'w> {
         let mut buffer = [0; FRAME];
         let _ = self.send_by(&mut buffer);
         let n = self.out.take(&mut buffer)?;
-        Symbol::read(&buffer[0..n])
+        Symbol::read(&buffer[..n])
     }
 
     // The port submits and sends a packet, which is taken off its lane.
@@ -85,24 +78,21 @@ impl<'r, 'w> Stand<'r, 'w> {
 
 // A symbol that says one thing of an ackID, and asks nothing.
 pub(crate) fn saying(says: Stype0, ack_id: u8, parameter1: u8) -> Symbol {
-    Symbol {
-        stype0: says.code(),
-        parameter0: ack_id,
-        parameter1,
-        stype1: Stype1::Nop.code(),
-        cmd: Stype1::Nop.cmd(),
-    }
+    Symbol::of(says, ack_id, parameter1, Stype1::Nop)
 }
 
-// Seals a load of n bytes that are not all alike, stamps its packet with an ackID and answers the packet's length.
-pub(crate) fn seal(n: usize, ack_id: u8, buffer: &mut [u8; FRAME]) -> usize {
-    let mut load = [0; FRAME];
-    let mut next: u8 = 0xA7;
-    for b in load.iter_mut() {
-        *b = next;
-        next = next.wrapping_add(37);
+// Bytes that are not all alike: each is 37 above the one before it, less 256 where it would not fit.
+fn bytes() -> [u8; FRAME] {
+    let mut bytes = [0; FRAME];
+    for (i, b) in bytes.iter_mut().enumerate() {
+        *b = ((0xA7 + 37 * i) % 256) as u8;
     }
-    let sealed = sealing::seal(&load[0..n.min(FRAME)], buffer);
-    let _ = header::stamp(buffer, ack_id);
-    sealed.unwrap_or(0)
+    bytes
+}
+
+// Seals a load of n bytes, stamps its packet with an ackID and answers the packet, which stands at the front of the buffer.
+pub(crate) fn seal(n: usize, ack_id: u8, buffer: &mut [u8; FRAME]) -> Result<&mut [u8], Refusal> {
+    let length = sealing::seal(&bytes()[..n.min(FRAME)], buffer)?;
+    header::stamp(buffer, ack_id)?;
+    Ok(&mut buffer[..length])
 }

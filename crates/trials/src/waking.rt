@@ -4,11 +4,13 @@
 // sent, and it fails rather than send a packet under another's ackID; but where ackID 0 lies among those under way, as at first
 // 31, it takes the packets before it for received. So both ports of a link are to be started together.
 use crate::show;
-use crate::stand::{PLACES, Stand, saying};
+use crate::stand::{Stand, saying};
+use crate::tally::Tally;
 use lane::{FRAME, Lane};
-use port::pending::PendingReply;
-use port::record::WaitingSlot;
+use port::memory::Memory;
 use port::snapshot::Snapshot;
+use refusal::Refusal;
+use rules::state::Received;
 use script::print::Answer;
 use std::io;
 use symbol::codes::Stype0;
@@ -31,11 +33,10 @@ fn prepare(sender: &mut Stand, freed: u8) {
 }
 
 // Of the first frame only the last n bytes reach the port that wakes.
-fn cut(sender: &mut Stand, woken: &mut Stand, n: usize) {
+fn cut(sender: &mut Stand, woken: &mut Stand, n: usize) -> Result<Received, Refusal> {
     let mut buffer = [0; FRAME];
-    let end = sender.out.take(&mut buffer).unwrap_or(0).min(FRAME);
-    let start = end - n.min(end);
-    let _ = woken.receive(&buffer[start..end]);
+    let end = sender.out.take(&mut buffer)?;
+    woken.receive(&buffer[end.saturating_sub(n)..end])
 }
 
 // One port sends, where its lane is empty, and the other receives.
@@ -47,41 +48,34 @@ fn pass(from: &mut Stand, to: &mut Stand) {
     let _ = to.port.receive(&mut from.out, &mut buffer);
 }
 
-// The two ports send and receive in turn; what comes is collected and counted.
+// Each of the two ports sends and the other receives: whether a packet then waited to be collected.
+fn turn(sender: &mut Stand, woken: &mut Stand) -> bool {
+    pass(sender, woken);
+    pass(woken, sender);
+    woken.port.collect(&mut [0; FRAME]).is_ok()
+}
+
+// How many packets the woken port collects in twenty turns.
 fn exchange(sender: &mut Stand, woken: &mut Stand) -> usize {
-    let mut collected: usize = 0;
-    for _ in 0..20u8 {
-        pass(sender, woken);
-        pass(woken, sender);
-        if woken.port.collect(&mut [0; FRAME]).is_ok() {
-            collected = collected.saturating_add(1);
-        }
-    }
-    collected
+    (0..20u8).filter(|_| turn(sender, woken)).count()
 }
 
 // How waking ended: how many packets the woken port collected, and where both ports stand.
-#[derive(Clone, Copy)]
+#[derive(Clone, Copy, PartialEq, Eq)]
 struct Ended {
     collected: usize,
     sender: Snapshot,
     woken: Snapshot,
 }
 
-fn is_same(one: Ended, other: Ended) -> bool {
-    one.collected == other.collected && one.sender == other.sender && one.woken == other.woken
-}
-
 // A port wakes n bytes before the end of a frame of a port that has had some packets acknowledged.
 fn wake(freed: u8, n: usize) -> Ended {
-    let mut replies = [PendingReply::unused(); PLACES];
-    let mut records = [WaitingSlot::unused(); PLACES];
-    let mut sender = Stand::new(&mut replies, &mut records);
-    let mut other_replies = [PendingReply::unused(); PLACES];
-    let mut other_records = [WaitingSlot::unused(); PLACES];
-    let mut woken = Stand::new(&mut other_replies, &mut other_records);
+    let mut memory = Memory::unused();
+    let mut sender = Stand::of(memory.port());
+    let mut other_memory = Memory::unused();
+    let mut woken = Stand::of(other_memory.port());
     prepare(&mut sender, freed);
-    cut(&mut sender, &mut woken, n);
+    let _ = cut(&mut sender, &mut woken, n);
     let collected = exchange(&mut sender, &mut woken);
     Ended {
         collected,
@@ -90,20 +84,9 @@ fn wake(freed: u8, n: usize) -> Ended {
     }
 }
 
-// A port wakes at each place in a frame of a port that has had some packets acknowledged.
-fn wake_everywhere(rt: &HostRuntime, freed: u8) -> io::Result<()> {
-    let ended = wake(freed, 1);
-    let mut same: usize = 0;
-    let mut others: usize = 0;
-    for n in 1..PACKET {
-        if is_same(wake(freed, n), ended) {
-            same = same.saturating_add(1);
-        } else {
-            others = others.saturating_add(1);
-        }
-    }
-    show::counts(rt, "places in a frame, at first", freed, same, others)?;
-    let collected = Answer::Length(ended.collected);
+// How waking ended at the first place in a frame, and where the ports then stood.
+fn show_ended(rt: &HostRuntime, freed: u8, ended: Ended) -> io::Result<()> {
+    let collected = Answer::from(ended.collected);
     show::step(
         rt,
         "collected, and the sender, at first",
@@ -118,6 +101,25 @@ fn wake_everywhere(rt: &HostRuntime, freed: u8) -> io::Result<()> {
         collected,
         ended.woken,
     )
+}
+
+// A port wakes at each place in a frame of a port that has had some packets acknowledged.
+fn wake_everywhere(rt: &HostRuntime, freed: u8) -> io::Result<()> {
+    let mut tally = Tally::default();
+    for n in 1..PACKET {
+        tally.count(wake(freed, n));
+    }
+    show::counts(
+        rt,
+        "places in a frame, at first",
+        freed,
+        tally.same,
+        tally.others,
+    )?;
+    match tally.first {
+        Some(ended) => show_ended(rt, freed, ended),
+        None => Ok(()),
+    }
 }
 
 pub(crate) fn trial(rt: &HostRuntime) -> io::Result<()> {

@@ -2,7 +2,6 @@
 use Rattle.std.proofs.Common.{◌≡◌, ℕ, Bool, true, false, cond, leb, List, [], ◌∷◌, ◌++◌, length, take, drop, Some, None, Ok, Err, Result, sym, refl, ap, ◌∙◌, inl, inr, arith}
 use Rattle.std.proofs.lemmas.List.{take_at}
 use Rattle.refusal.specs.declared.Refusal.{Refusal}
-use Rattle.packet.specs.Sealing.{sealed_of}
 use Rattle.lane.specs.Meaning.{Frames, Gains}
 use Rattle.rules.specs.Wire.{Packet, Frame}
 use Rattle.rules.specs.Port.{Port, most_held}
@@ -16,7 +15,8 @@ use Rattle.link.specs.declared.call.Call.TheVariants.{Submit, Send, Receive, Col
 use Rattle.link.specs.declared.call.Outcome.{Outcome}
 use Rattle.link.specs.declared.call.Outcome.TheVariants.{Submitted, Sent, Received, Collected}
 use Rattle.link.specs.Performing.{Scene, Same, Does, as_rules}
-use Rattle.port.specs.Promises.{Agrees, copied}
+use Rattle.packet.specs.Sealing.{sealed_of, written_over}
+use Rattle.port.specs.Promises.{Agrees}
 use Rattle.link.specs.Recorded.{Log, logged, side_of}
 
 -- what is submitted is the sealed load
@@ -58,7 +58,7 @@ module _ (s t : Scene) (l : Log) where
   fate_of f w w' (inr (inr e)) = (lose, tt, sym e)
 
   send_leaves : (load : List ℕ) (m : Result Departure Refusal) (r : Result Outcome Refusal)
-      → Agrees (λ (d : Departure) (o : Outcome). (o ≡ Sent d.answer) × (t.port ≡ d.port) × Gains s.out d.frame t.out × (t.incoming ≡ s.incoming) × (t.buffer ≡ copied d.frame s.buffer)) (Same s t) m r
+      → Agrees (λ (d : Departure) (o : Outcome). (o ≡ Sent d.answer) × (t.port ≡ d.port) × Gains s.out d.frame t.out × (t.incoming ≡ s.incoming) × (t.buffer ≡ written_over d.frame s.buffer)) (Same s t) m r
       → (fate : Fate) × Possible serial fate × Leaves (after_send fate m (side_of s.port s.out l), s.incoming) (side_of t.port t.out (logged load r t.buffer l)) t.incoming
   send_leaves load (Ok d) (Ok o) h =
       let z = fate_of d.frame s.out t.out h.2 in (
@@ -72,7 +72,7 @@ module _ (s t : Scene) (l : Log) where
   send_leaves load (Err e) (Err f) h = (keep, tt, stays h.1)
 
   receive_leaves : (load : List ℕ) (m : Result Arrival Refusal) (r : Result Outcome Refusal)
-      → Agrees (λ (d : Arrival) (o : Outcome). (o ≡ Received d.answer) × (t.port ≡ d.port) × (t.out ≡ s.out) × (t.incoming ≡ d.rest) × (t.buffer ≡ copied d.frame s.buffer)) (Same s t) m r
+      → Agrees (λ (d : Arrival) (o : Outcome). (o ≡ Received d.answer) × (t.port ≡ d.port) × (t.out ≡ s.out) × (t.incoming ≡ d.rest) × (t.buffer ≡ written_over d.frame s.buffer)) (Same s t) m r
       → Leaves (after_receive m (side_of s.port s.out l) s.incoming) (side_of t.port t.out (logged load r t.buffer l)) t.incoming
   receive_leaves load (Ok d) (Ok o) h =
       (λ j. (record { port = sym h.1 j; lane = sym h.2 j; accepted = l.accepted; collected = l.collected }, sym h.3 j))
@@ -82,7 +82,7 @@ module _ (s t : Scene) (l : Log) where
   receive_leaves load (Err e) (Err f) h = stays h.1
 
   collect_leaves : (load : List ℕ) (m : Result CollectedBy Refusal) (r : Result Outcome Refusal)
-      → Agrees (λ (d : CollectedBy) (o : Outcome). (o ≡ Collected (length d.packet)) × (t.port ≡ d.port) × (t.out ≡ s.out) × (t.incoming ≡ s.incoming) × (t.buffer ≡ copied d.packet s.buffer)) (Same s t) m r
+      → Agrees (λ (d : CollectedBy) (o : Outcome). (o ≡ Collected (length d.packet)) × (t.port ≡ d.port) × (t.out ≡ s.out) × (t.incoming ≡ s.incoming) × (t.buffer ≡ written_over d.packet s.buffer)) (Same s t) m r
       → Leaves (after_collect m (side_of s.port s.out l), s.incoming) (side_of t.port t.out (logged load r t.buffer l)) t.incoming
   collect_leaves load (Ok d) (Ok o) h =
       let x : d.packet ≡ take (length d.packet) t.buffer =

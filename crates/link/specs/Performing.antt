@@ -11,7 +11,8 @@ use Rattle.link.specs.declared.call.Call.{Call}
 use Rattle.link.specs.declared.call.Call.TheVariants.{Submit, Send, Receive, Collect, TimeOut}
 use Rattle.link.specs.declared.call.Outcome.{Outcome}
 use Rattle.link.specs.declared.call.Outcome.TheVariants.{Submitted, Sent, Received, Collected, TimedOut}
-use Rattle.port.specs.Promises.{Agrees, copied}
+use Rattle.packet.specs.Sealing.{written_over}
+use Rattle.port.specs.Promises.{Agrees}
 
 -- A call in the rules' terms, with a load to submit and a buffer of so many bytes.
 abbrev pub as_rules : Call → List ℕ → ℕ → RulesCall
@@ -43,19 +44,19 @@ Does limit Submit load s r t =
     r
 Does limit Send load s r t =
     Agrees
-    (λ (d : Departure) (o : Outcome). (o ≡ Sent d.answer) × (t.port ≡ d.port) × Gains s.out d.frame t.out × (t.incoming ≡ s.incoming) × (t.buffer ≡ copied d.frame s.buffer))
+    (λ (d : Departure) (o : Outcome). (o ≡ Sent d.answer) × (t.port ≡ d.port) × Gains s.out d.frame t.out × (t.incoming ≡ s.incoming) × (t.buffer ≡ written_over d.frame s.buffer))
     (Same s t)
     (send 32 serial (length s.buffer) limit s.out s.port)
     r
 Does limit Receive load s r t =
     Agrees
-    (λ (d : Arrival) (o : Outcome). (o ≡ Received d.answer) × (t.port ≡ d.port) × (t.out ≡ s.out) × (t.incoming ≡ d.rest) × (t.buffer ≡ copied d.frame s.buffer))
+    (λ (d : Arrival) (o : Outcome). (o ≡ Received d.answer) × (t.port ≡ d.port) × (t.out ≡ s.out) × (t.incoming ≡ d.rest) × (t.buffer ≡ written_over d.frame s.buffer))
     (Same s t)
     (receive 32 serial (length s.buffer) s.incoming s.port)
     r
 Does limit Collect load s r t =
     Agrees
-    (λ (d : CollectedBy) (o : Outcome). (o ≡ Collected (length d.packet)) × (t.port ≡ d.port) × (t.out ≡ s.out) × (t.incoming ≡ s.incoming) × (t.buffer ≡ copied d.packet s.buffer))
+    (λ (d : CollectedBy) (o : Outcome). (o ≡ Collected (length d.packet)) × (t.port ≡ d.port) × (t.out ≡ s.out) × (t.incoming ≡ s.incoming) × (t.buffer ≡ written_over d.packet s.buffer))
     (Same s t)
     (collect (length s.buffer) s.port)
     r

@@ -5,7 +5,8 @@ use Rattle.std.proofs.lemmas.Bool.{le-ltb}
 use Rattle.refusal.specs.declared.Refusal.{Refusal}
 use Rattle.refusal.specs.declared.Refusal.TheVariants.{ShortBuffer}
 use Rattle.rules.specs.Calls.{refused_if, too_short}
-use Rattle.port.specs.Promises.{Agrees, copied}
+use Rattle.packet.specs.Sealing.{written_over}
+use Rattle.port.specs.Promises.{Agrees}
 use Rattle.port.proofs.Outcomes.{not_refused}
 
 -- what holds of a call still holds where each half of it follows
@@ -26,7 +27,7 @@ module _ (b front after : List ℕ) (cut : front ≡ take 276 b) (long : 276 ≤
   pub stays_whole : after ≡ front → after ++ drop 276 b ≡ b
   stays_whole e = ap (λ l. l ++ drop 276 b) e ∙ whole
 
-  pub copied_whole : (f : List ℕ) → after ≡ copied f front → after ++ drop 276 b ≡ copied f b
+  pub copied_whole : (f : List ℕ) → after ≡ written_over f front → after ++ drop 276 b ≡ written_over f b
   copied_whole f e =
       let parts = ap length e ∙ length-append f (drop (length f) front) in
       let n = length_front in

@@ -6,13 +6,12 @@ use Rattle.refusal.specs.declared.Refusal.TheVariants.{Nothing}
 use Rattle.lane.specs.Meaning.{SizedFrame}
 use Rattle.rules.specs.declared.state.Sent.{Sent}
 use Rattle.rules.specs.Wire.{Packet, Frame}
-use Rattle.rules.specs.Port.{Sender, Port, after}
+use Rattle.rules.specs.Port.{Sender, Receiver, Port, Places, after}
 use Rattle.rules.specs.Calls.{Departure}
 use Rattle.rules.specs.Serial.{serial}
 use Rattle.port.specs.declared.window.Window.{Window}
 use Rattle.port.specs.declared.record.WaitingSlot.{WaitingSlot}
-use Rattle.port.specs.Waiting.{Half}
-use Rattle.port.specs.Promises.{copied}
+use Rattle.packet.specs.Sealing.{written_over}
 
 -- A window has these four numbers.
 pub record Is (w : Window) (first held sent high : ℕ) : Type 0 where
@@ -27,8 +26,8 @@ next_frame o = serial.stamp (after 32 o.first o.sent) (slice_index_or o.held o.s
 
 -- There is a place for another reply. This is said of a moment, and where one is pended it may hold no longer: so it is a premise
 -- of each function that may pend one, and no fact of a type.
-abbrev pub CanReply : Half → Type 0
-CanReply r = length r.receiver.pending < r.places.replies
+abbrev pub CanReply : Receiver → Places → Type 0
+CanReply receiver places = length receiver.pending < places.replies
 
 -- Whether one of some records names a slot.
 abbrev pub is_named : ℕ → List WaitingSlot → Bool
@@ -46,7 +45,7 @@ stored false p waiting = waiting
 
 -- What the packets that wait give to a buffer b: the first goes to its front, and the bytes behind stay.
 abbrev pub Gives : List Packet → List ℕ → Result ℕ Refusal → List Packet → List ℕ → Type 0
-Gives before b (Ok n) after b' = (p : Packet) × (before ≡ p ∷ after) × (n ≡ length p) × (b' ≡ p ++ drop (length p) b)
+Gives before b (Ok n) after b' = (p : Packet) × (before ≡ p ∷ after) × (n ≡ length p) × (b' ≡ written_over p b)
 Gives before b (Err e) after b' = (e ≡ Nothing) × (before ≡ []) × (after ≡ before) × (b' ≡ b)
 
 -- The answer of a send, by what is due.
@@ -57,4 +56,4 @@ answered (Some d) = Some d.answer
 -- What is due is written to the front of a buffer: n bytes.
 abbrev pub Writes : Option Departure → List ℕ → ℕ → Port → List ℕ → Type 0
 Writes None b n p' b' = ⊥
-Writes (Some d) b n p' b' = (n ≡ length d.frame) × SizedFrame d.frame × (p' ≡ d.port) × (b' ≡ copied d.frame b)
+Writes (Some d) b n p' b' = (n ≡ length d.frame) × SizedFrame d.frame × (p' ≡ d.port) × (b' ≡ written_over d.frame b)

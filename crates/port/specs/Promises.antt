@@ -1,6 +1,7 @@
 -- What each call of a port answers and leaves, by what the rules say of it.
-use Rattle.std.specs.Prelude.{◌≡◌, ℕ, Bool, List, ◌++◌, length, drop, Ok, Err, Result}
+use Rattle.std.specs.Prelude.{◌≡◌, ℕ, Bool, List, length, Ok, Err, Result}
 use Rattle.refusal.specs.declared.Refusal.{Refusal}
+use Rattle.packet.specs.Sealing.{written_over}
 use Rattle.lane.specs.Meaning.{Frames, Gains}
 use Rattle.rules.specs.declared.state.Sent.{Sent}
 use Rattle.rules.specs.declared.state.Received.{Received}
@@ -17,10 +18,6 @@ Agrees Handled Refused (Ok a) (Err e) = ⊥
 Agrees Handled Refused (Err e) (Ok b) = ⊥
 Agrees Handled Refused (Err e) (Err f) = (f ≡ e) × Refused
 
--- Bytes copied to the front of a buffer, which keeps the bytes behind.
-abbrev pub copied : List ℕ → List ℕ → List ℕ
-copied bytes buffer = bytes ++ drop (length bytes) buffer
-
 -- Submit, from the port p to p'.
 abbrev pub Submits : List ℕ → Port → Result (Unit {0}) Refusal → Port → Type 0
 Submits load p r p' = Agrees (λ (s : Submitted) (done : Unit {0}). p' ≡ s.port) (p' ≡ p) (submit 32 serial load p) r
@@ -29,7 +26,7 @@ module _ {L : Type 0} (waiting : L → Frames) where
   -- A frame went out, from the lane l to l' and from the buffer b to b': it stands at the buffer's front and was put to the
   -- lane, which gained it, one unsound frame or nothing, and did with it what a lane of its kind does.
   abbrev pub Departs : (L → Frame → L → Type 0) → L → List ℕ → Port → L → List ℕ → Departure → Sent → Type 0
-  Departs puts l b p' l' b' d s = (s ≡ d.answer) × (p' ≡ d.port) × (b' ≡ copied d.frame b) × Gains (waiting l) d.frame (waiting l') × puts l d.frame l'
+  Departs puts l b p' l' b' d s = (s ≡ d.answer) × (p' ≡ d.port) × (b' ≡ written_over d.frame b) × Gains (waiting l) d.frame (waiting l') × puts l d.frame l'
 
   -- Send, to a lane of this limit.
   abbrev pub Sends : ℕ → (L → Frame → L → Type 0) → Port → L → List ℕ → Result Sent Refusal → Port → L → List ℕ → Type 0
@@ -37,7 +34,7 @@ module _ {L : Type 0} (waiting : L → Frames) where
 
   -- A frame came in: it was the first that waited and stands at the buffer's front, and the lane has the rest.
   abbrev pub Arrives : (L → L → Type 0) → L → List ℕ → Port → L → List ℕ → Arrival → Received → Type 0
-  Arrives takes l b p' l' b' a s = (s ≡ a.answer) × (p' ≡ a.port) × (b' ≡ copied a.frame b) × (waiting l' ≡ a.rest) × takes l l'
+  Arrives takes l b p' l' b' a s = (s ≡ a.answer) × (p' ≡ a.port) × (b' ≡ written_over a.frame b) × (waiting l' ≡ a.rest) × takes l l'
 
   -- Receive.
   abbrev pub Receives : (L → L → Type 0) → Port → L → List ℕ → Result Received Refusal → Port → L → List ℕ → Type 0
@@ -45,7 +42,7 @@ module _ {L : Type 0} (waiting : L → Frames) where
 
 -- Collect, to a buffer: the packet stands at its front, and its length is the answer.
 abbrev pub Collects : Port → List ℕ → Result ℕ Refusal → Port → List ℕ → Type 0
-Collects p b r p' b' = Agrees (λ (s : Collected) (n : ℕ). (n ≡ length s.packet) × (p' ≡ s.port) × (b' ≡ copied s.packet b)) ((p' ≡ p) × (b' ≡ b)) (collect (length b) p) r
+Collects p b r p' b' = Agrees (λ (s : Collected) (n : ℕ). (n ≡ length s.packet) × (p' ≡ s.port) × (b' ≡ written_over s.packet b)) ((p' ≡ p) × (b' ≡ b)) (collect (length b) p) r
 
 -- Time-out, which is never refused.
 abbrev pub TimesOut : Port → Bool → Port → Type 0

@@ -1,5 +1,5 @@
 // What a frame that was taken from a lane does to a port.
-ghost use Rattle.std.specs.Prelude.{◌≡◌, ◌<◌, ◌≤◌, length};
+ghost use Rattle.std.specs.Prelude.{◌≡◌};
 ghost use Rattle.rules.specs.Hearing.{heard};
 ghost use Rattle.rules.specs.Calls.{received_as};
 ghost use Rattle.rules.specs.Serial.{serial};
@@ -16,7 +16,7 @@ use symbol::Symbol;
 impl<'r, 'w> Port<'r, 'w> {
     // A frame acts on the port, by what it is: of a symbol the first half acts first.
     pub(crate) fn handle(&mut self, frame: Frame<'_>) -> Received
-        requires { length self.old.receiver.pending < self.old.places.replies }
+        requires { CanReply self.old.receiver self.old.places }
         ensures answer { result ≡ received_as (serial.read frame.entry.bytes.now) }
         ensures port { self.new ≡ heard 32 (serial.read frame.entry.bytes.now) self.old }
     {

@@ -2,6 +2,7 @@
 ghost use Rattle.std.specs.Prelude.{◌≡◌, length, replicate};
 ghost use Rattle.rules.specs.declared.state.Reply.TheVariants.{Accepted};
 ghost use Rattle.rules.specs.Port.{fresh};
+ghost use Rattle.port.specs.Memory.{replies_in, records_in};
 
 use crate::Port;
 use crate::pending::PendingReply;
@@ -20,8 +21,8 @@ pub struct Memory {
 
 impl Memory {
     pub fn unused() -> Memory
-        ensures replies { result.replies ≡ replicate 8 (Accepted 0) }
-        ensures records { length result.records ≡ 8 }
+        ensures replies { replies_in result ≡ replicate 8 (Accepted 0) }
+        ensures records { length (records_in result) ≡ 8 }
     {
         Memory {
             replies: [PendingReply::unused(); PLACES],

@@ -1,7 +1,7 @@
 // The slots of a port, each written in its place.
 ghost use Rattle.std.specs.Prelude.{◌≡◌, ℕ, ◌<◌, ◌≤◌, [], ◌++◌, length, drop, ◌≢◌, slice_index_or, slice_set};
 ghost use Rattle.packet.specs.Crc.{cleared_of};
-ghost use Rattle.packet.specs.Sealing.{sealed_of};
+ghost use Rattle.packet.specs.Sealing.{sealed_of, written_over};
 ghost use Rattle.port.specs.Slots.{packets_in, front_in};
 
 use crate::sized::{Frame, SealableLoad};
@@ -42,7 +42,7 @@ impl<const N: usize> Slots<N> {
         requires { i < N }
         ensures len { result ≡ length (slice_index_or (packets_in self.now) i []) }
         ensures bounds { (1 ≤ result) × (result ≤ 276) }
-        ensures bytes { buffer.new ≡ slice_index_or (packets_in self.now) i [] ++ drop (length (slice_index_or (packets_in self.now) i [])) buffer.old }
+        ensures bytes { buffer.new ≡ written_over (slice_index_or (packets_in self.now) i []) buffer.old }
     {
         self.all[i].copy_out(buffer)
     }

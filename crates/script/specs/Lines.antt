@@ -1,6 +1,7 @@
 -- The lines of a script. Each ends with a line feed, byte 10, which the last may lack.
 use Rattle.std.specs.Prelude.{◌≡◌, ℕ, ◌<◌, if◌then◌else◌, ◌⊎◌, List, [], ◌∷◌, ◌++◌, length, Some, None, Option, ◌==◌, ◌≢◌, All, flat_map}
 use Rattle.script.specs.declared.lines.FirstLine.{FirstLine}
+use Rattle.script.specs.declared.lines.Lines.{Lines}
 
 -- One more byte in front of the first line.
 abbrev pub before : ℕ → List (List ℕ) → List (List ℕ)
@@ -11,6 +12,10 @@ before c (l ∷ ls) = (c ∷ l) ∷ ls
 unfoldable pub lines_of : List ℕ → List (List ℕ)
 lines_of [] = []
 lines_of (c ∷ cs) = if c == 10 then [] ∷ lines_of cs else before c (lines_of cs)
+
+-- What is left of a script to go over.
+abbrev pub left_of : Lines → List ℕ
+left_of lines = lines.script.now
 
 -- A line with its line feed.
 abbrev pub ended : List ℕ → List ℕ

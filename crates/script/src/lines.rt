@@ -1,7 +1,7 @@
 // A script cut into its lines.
 ghost use Rattle.std.specs.Prelude.{◌≡◌, ◌==◌, position};
 ghost use Rattle.std.specs.Iterator.{YieldsFirstRef, item_count};
-ghost use Rattle.script.specs.Lines.{LinesStand, CutsFirst, lines_of};
+ghost use Rattle.script.specs.Lines.{LinesStand, CutsFirst, lines_of, left_of};
 
 // The first line of a script, without its line feed, and what follows it.
 #[derive(Clone, Copy, Debug)]
@@ -46,7 +46,7 @@ pub struct Lines<'a> {
 impl<'a> Lines<'a> {
     // All lines of a script.
     pub fn of(script: &'a [u8]) -> Lines<'a>
-        ensures { result.script.now ≡ script.now }
+        ensures { left_of result ≡ script.now }
     {
         Lines { script }
     }
@@ -55,9 +55,9 @@ impl<'a> Lines<'a> {
 impl<'a> Iterator for Lines<'a> {
     type Item = &'a [u8];
 
-    ghost next_gives = { YieldsFirstRef (λ lines. lines_of lines.script.now) };
+    ghost next_gives = { YieldsFirstRef (λ lines. lines_of (left_of lines)) };
 
-    ghost remaining = { item_count (λ lines. lines_of lines.script.now) };
+    ghost remaining = { item_count (λ lines. lines_of (left_of lines)) };
 
     fn next(&mut self) -> Option<&'a [u8]> {
         let first = first_line(self.script)?;

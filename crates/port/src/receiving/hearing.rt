@@ -30,7 +30,7 @@ impl<'r, 'w> Receiving<'r, 'w> {
 
     // The input turns to another state, and a reply is pended.
     fn pend(&mut self, input: Input, reply: Reply)
-        requires place { CanReply self.old }
+        requires place { CanReply self.old.receiver self.old.places }
         requires within { ack_id_of reply < 32 }
         ensures receiver { self.new.receiver ≡ pended input reply self.old.receiver }
         ensures places { self.new.places ≡ self.old.places }
@@ -52,7 +52,7 @@ impl<'r, 'w> Receiving<'r, 'w> {
 
     // What the second half of a symbol asks.
     pub(crate) fn obey(&mut self, asks: Option<Stype1>)
-        requires { CanReply self.old }
+        requires { CanReply self.old.receiver self.old.places }
         ensures receiver { self.new.receiver ≡ asked self.old.receiver.input asks self.old.receiver }
         ensures places { self.new.places ≡ self.old.places }
     {
@@ -68,7 +68,7 @@ impl<'r, 'w> Receiving<'r, 'w> {
 
     // An unsound frame.
     pub(crate) fn reject(&mut self, cause: Cause)
-        requires { CanReply self.old }
+        requires { CanReply self.old.receiver self.old.places }
         ensures receiver { self.new.receiver ≡ rejected self.old.receiver.input cause self.old.receiver }
         ensures places { self.new.places ≡ self.old.places }
     {
@@ -86,7 +86,7 @@ impl<'r, 'w> Receiving<'r, 'w> {
 
     // A sound packet, under its ackID.
     pub(crate) fn arrive(&mut self, ack_id: u8, packet: Frame<'_>)
-        requires { CanReply self.old }
+        requires { CanReply self.old.receiver self.old.places }
         ensures receiver { self.new.receiver ≡ arrived 32 self.old.places self.old.receiver.input ack_id (cleared_of packet.entry.bytes.now) self.old.receiver }
         ensures places { self.new.places ≡ self.old.places }
     {

@@ -1,6 +1,6 @@
 // What the sending half does with its packets.
 ghost use Rattle.std.specs.Prelude.{◌≡◌, ◌+◌, ◌<◌, ◌≤◌, [], ◌++◌, length, drop, nat_lt};
-ghost use Rattle.packet.specs.Sealing.{sealed_of};
+ghost use Rattle.packet.specs.Sealing.{sealed_of, written_over};
 ghost use Rattle.rules.specs.declared.state.Output.TheVariants.{Running};
 ghost use Rattle.rules.specs.Port.{Places, fresh};
 ghost use Rattle.rules.specs.Hearing.{turned};
@@ -65,7 +65,7 @@ impl Sending {
         requires { (self.old.output ≡ Running) × (self.old.sent < length self.old.held) }
         ensures len { result ≡ length (next_frame self.old) }
         ensures bounds { (1 ≤ result) × (result ≤ 276) }
-        ensures bytes { buffer.new ≡ next_frame self.old ++ drop (length (next_frame self.old)) buffer.old }
+        ensures bytes { buffer.new ≡ written_over (next_frame self.old) buffer.old }
         ensures sender { self.new ≡ one_more_sent self.old }
     {
         let i = place(self.base, self.window.sent as usize, SEND_SLOTS);

@@ -1,7 +1,7 @@
 // What a slot's packet is written by, and read.
 ghost use Rattle.std.specs.Prelude.{◌≡◌, ◌≤◌, ◌++◌, length, take, drop};
 ghost use Rattle.packet.specs.Crc.{cleared_of};
-ghost use Rattle.packet.specs.Sealing.{sealed_of};
+ghost use Rattle.packet.specs.Sealing.{sealed_of, written_over};
 ghost use Rattle.port.specs.Slots.{packet_in};
 
 use super::Slot;
@@ -13,7 +13,7 @@ use packet::{header, sealing};
 // holds after a write through a part of it that was lent inside the slot's own method.
 fn copy_to(to: &mut [u8], from: &[u8])
     requires { length from.now ≤ length to.old }
-    ensures { to.new ≡ from.now ++ drop (length from.now) to.old }
+    ensures { to.new ≡ written_over from.now to.old }
 {
     to[..from.len()].copy_from_slice(from);
 }
@@ -59,7 +59,7 @@ impl Slot {
     pub(crate) fn copy_out(&self, buffer: &mut [u8; FRAME]) -> usize
         ensures len { result ≡ length (packet_in self.now) }
         ensures bounds { (1 ≤ result) × (result ≤ 276) }
-        ensures bytes { buffer.new ≡ packet_in self.now ++ drop (length (packet_in self.now)) buffer.old }
+        ensures bytes { buffer.new ≡ written_over (packet_in self.now) buffer.old }
     {
         self.copy_front(self.len, buffer);
         self.len

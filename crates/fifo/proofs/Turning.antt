@@ -1,7 +1,8 @@
 -- What a write into a ring, a read, and some steps on do to its places as read from the head on.
 use Rattle.std.specs.Prelude.{slice_index_or}
-use Rattle.std.proofs.Common.{◌≡◌, ℕ, ◌+◌, ◌-◌, ◌<◌, ◌≤◌, List, [], ◌∷◌, ◌++◌, length, take, drop, set, Some, sym, ap, ◌∙◌, inl, inr, append_assoc, arith}
+use Rattle.std.proofs.Common.{append-nil, min, ◌≡◌, ℕ, ◌+◌, ◌-◌, ◌<◌, ◌≤◌, List, [], ◌∷◌, ◌++◌, length, take, drop, set, Some, sym, ap, ◌∙◌, inl, inr, append_assoc, arith}
 use lib.Seq.{take-set-lt}
+use Rattle.std.proofs.Math.Seq.{take-append-add}
 use Rattle.std.proofs.lemmas.Bool.{cases_lt}
 use Rattle.std.proofs.lemmas.List.{length-append, length-take, length-take-le, length-drop, length-set, take-append-le, take_more_set, take-set-le, drop-set-lt, drop-set-add, set-append_left, set-append_right, get_or_append_left, get_or-append_right, get_or-drop, get_or-take, drop-append-le, drop_at, drop_more, drop-drop, drop-take, take-append-drop, take-take, take_all, drop_all}
 use Rattle.fifo.specs.Turned.{turned, At}
@@ -130,6 +131,37 @@ module _ {T : Type 0} where
       let b : slice_index_or ring k d ≡ slice_index_or ps i d = get_or-take n (turned h ps) k d some ∙ turned_get_or h k i ps d at places in
       let e : oldest (drop k ring) ≡ Some (slice_index_or ring k d) = ap oldest a in
       cc
+
+  take_min : (m : ℕ) (xs : List T) → take (min m (length xs)) xs ≡ take m xs
+  take_min m xs =
+      elim (cases_lt m (length xs)) [
+        | inl lt ↦ let e : min m (length xs) ≡ m = omega arith in ap (λ k. take k xs) e
+        | inr ge ↦ let e : min m (length xs) ≡ length xs = omega arith in ap (λ k. take k xs) e ∙ take_all (length xs) xs (omega arith) ∙ sym (take_all m xs ge)
+      ]
+
+  -- the first m of two lists, as the first of the one and the first of the other
+  pub take_parts : (m i j : ℕ) (xs ys : List T) → i ≡ min m (length xs) → j ≡ min (m - i) (length ys) → take i xs ++ take j ys ≡ take m (xs ++ ys)
+  take_parts m i j xs ys is js =
+      elim (cases_lt (length xs) m) [
+        | inl more ↦
+            let all : take i xs ≡ xs = take_all i xs (omega arith) in
+            let rest : take j ys ≡ take (m - length xs) ys = ap (λ k. take k ys) (let e : j ≡ min (m - length xs) (length ys) = omega arith in e) ∙ take_min (m - length xs) ys in
+            let whole : take (length xs + (m - length xs)) (xs ++ ys) ≡ xs ++ take (m - length xs) ys = take-append-add xs ys (m - length xs) in
+            let sum : length xs + (m - length xs) ≡ m = omega arith in
+            (λ k. all k ++ rest k) ∙ sym whole ∙ ap (λ k. take k (xs ++ ys)) sum
+        | inr few ↦
+            let one : i ≡ m = omega arith in
+            let none : j ≡ 0 = omega arith in
+            (λ k. take (one k) xs ++ take (none k) ys) ∙ append-nil (take m xs) ∙ sym (take-append-le m xs ys few)
+      ]
+
+  -- from the head or, where that is past them, from the first
+  pub turned_least : (h m : ℕ) (ps : List T) → m ≡ min h (length ps) → drop m ps ++ take m ps ≡ turned h ps
+  turned_least h m ps is =
+      elim (cases_lt h (length ps)) [
+        | inl lt ↦ let e : m ≡ h = omega arith in ap (λ k. turned k ps) e
+        | inr past ↦ turned_past m ps (omega arith) ∙ sym (turned_past h ps past)
+      ]
 
   pub take_least : (m : ℕ) (xs : List T) → take (length (take m xs)) xs ≡ take m xs
   take_least m xs =

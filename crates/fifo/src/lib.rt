@@ -8,7 +8,7 @@ pub mod ring;
 #[cfg(test)]
 mod tests;
 
-ghost use Rattle.std.specs.Prelude.{◌≡◌, ◌≤◌, [], ◌∷◌, length, drop, OnErr, MatchOption};
+ghost use Rattle.std.specs.Prelude.{◌≡◌, ◌≤◌, [], ◌∷◌, ◌++◌, length, drop, OnErr, MatchOption};
 ghost use Rattle.std.specs.Iterator.{YieldsFirst};
 ghost use Rattle.std.specs.Iterator.Runs.{YieldsInOrder};
 ghost use Rattle.fifo.specs.Held.{in_ring, queued, places_of, to_come, oldest, Puts, Takes};
@@ -61,6 +61,13 @@ impl<'a, T: Copy> Queue<'a, T> {
             ring: self.ring,
             places: self.places,
         }
+    }
+
+    // What it holds, as two parts of its memory, the older elements first.
+    pub fn as_slices(&self) -> (&[T], &[T])
+        ensures { result.0.now ++ result.1.now ≡ queued self.now }
+    {
+        self.ring.parts(self.places)
     }
 
     // The oldest element, where there is one.

@@ -32,6 +32,9 @@ fn go_round(rt: &impl Abort, queue: &mut Queue<u8>, n: u8) -> Result<(), Fail>
     for i in 0..30u8 {
         assert_eq!(rt; queue.peek(), Some(i));
         assert!(rt; queue.iter().eq(i..i + n));
+        let (older, newer) = queue.as_slices();
+        assert_eq!(rt; older.first(), Some(&i));
+        assert_eq!(rt; older.len().saturating_add(newer.len()), n as usize);
         assert!(rt; holds(queue, i));
         assert!(rt; !holds(queue, i + n));
         assert_eq!(rt; queue.take()?, i);

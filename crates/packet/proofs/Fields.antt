@@ -28,6 +28,10 @@ same_written k xs ys e =
     let cleared = ap cleared_of e ∙ cleared_stamped k xs in
     record { rest = ap unstamped_of e ∙ unstamped_stamped k xs; sound = sound_same ys xs cleared; cleared = cleared }
 
+-- what was not written differs in nothing
+pub same_itself : (xs : List ℕ) → SameButAckId xs xs
+same_itself xs = record { rest = refl; sound = refl; cleared = refl }
+
 pub length_stamped : (k : ℕ) (xs : List ℕ) → length (stamped_of k xs) ≡ length xs
 length_stamped k [] = refl
 length_stamped k (b ∷ bs) = refl

@@ -16,7 +16,7 @@ pub length_crc : (bs : List ℕ) → length (with_crc bs) ≡ length bs + 2
 length_crc bs = length-append bs (bytes_of (run_of bs))
 
 -- bytes with their CRC bring the run to zero
-run_crc : (bs : List ℕ) → 0 < length bs → run_of (with_crc bs) ≡ 0
+pub run_crc : (bs : List ℕ) → 0 < length bs → run_of (with_crc bs) ≡ 0
 run_crc bs h = run_append bs (bytes_of (run_of bs)) h ∙ crc_own (run_of bs) (crc_lt 0xFFFF (cleared_of bs) (omega arith))
 
 -- zero bytes up to a multiple of 4
@@ -36,10 +36,10 @@ pub checked_short : (bs : List ℕ) → length bs ≤ 80 → checked_of bs ≡ w
 checked_short bs h = cond-true (nat_le (length bs) 80) _ _ (le-leb (length bs) 80 h)
 
 -- the first 80 bytes with their CRC, and the rest after them
-unfoldable long_of : List ℕ → List ℕ
+unfoldable pub long_of : List ℕ → List ℕ
 long_of bs = with_crc (take 80 bs) ++ drop 80 bs
 
-checked_long : (bs : List ℕ) → 80 < length bs → checked_of bs ≡ with_crc (long_of bs)
+pub checked_long : (bs : List ℕ) → 80 < length bs → checked_of bs ≡ with_crc (long_of bs)
 unfolding long_of
 checked_long bs h = cond-false (nat_le (length bs) 80) _ _ (lt-leb (length bs) 80 h)
 
@@ -48,7 +48,7 @@ by_length : (P : List ℕ → Type 0) (bs : List ℕ) → (length bs ≤ 80 → 
 by_length P bs few many =
     ⊎_elim (λ lt. subst P (sym (checked_long bs lt)) (many lt)) (λ le. subst P (sym (checked_short bs le)) (few le)) (cases_lt 80 (length bs))
 
-length_first : (bs : List ℕ) → 80 < length bs → length (with_crc (take 80 bs)) ≡ 82
+pub length_first : (bs : List ℕ) → 80 < length bs → length (with_crc (take 80 bs)) ≡ 82
 length_first bs h = length_crc (take 80 bs) ∙ simp length-take (omega arith)
 
 length_long : (bs : List ℕ) → 80 < length bs → length (long_of bs) ≡ length bs + 2
@@ -57,7 +57,7 @@ length_long bs h =
     let f = length_first bs h in
     length-append (with_crc (take 80 bs)) (drop 80 bs) ∙ simp length-drop (omega arith)
 
-length_checked : (bs : List ℕ) → length (checked_of bs) ≡ length bs + crc_length (length bs)
+pub length_checked : (bs : List ℕ) → length (checked_of bs) ≡ length bs + crc_length (length bs)
 length_checked bs =
     by_length (λ l. length l ≡ length bs + crc_length (length bs)) bs
     (λ le. length_crc bs ∙ grind arith)
@@ -83,17 +83,21 @@ even_checked load even = let n = length_cleared load in let m = length_checked (
 pub padding : (load : List ℕ) (n : ℕ) → length load % 2 ≡ 0 → n ≡ length (checked_of (cleared_of load)) → replicate (next_multiple_of n 4 - n) 0 ≡ pad_of (length (checked_of (cleared_of load)))
 padding load n even e = pad_zeros n (ap (λ k. k % 2) e ∙ even_checked load even) ∙ ap pad_of e
 
+-- the packet of a load has its checked bytes and what pads them
+pub length_padded : (load : List ℕ) → length (sealed_of load) ≡ length (checked_of (cleared_of load)) + length (pad_of (length (checked_of (cleared_of load))))
+unfolding sealed_of
+length_padded load = length-append (checked_of (cleared_of load)) (pad_of (length (checked_of (cleared_of load))))
+
 -- the packet of a load ends at the multiple of 4 after its checked bytes
 pub padded_sealed : (load : List ℕ) (n : ℕ) → length load % 2 ≡ 0 → n ≡ length (checked_of (cleared_of load)) → next_multiple_of n 4 ≡ length (sealed_of load)
 unfolding sealed_of
 padded_sealed load n even e =
-    let checked = checked_of (cleared_of load) in
     let zeros = sym (length-replicate (next_multiple_of n 4 - n) 0) ∙ ap length (padding load n even e) in
-    let whole = length-append checked (pad_of (length checked)) in
+    let whole = length_padded load in
     omega arith
 
 -- and has the length that the rule gives
-length_sealed : (load : List ℕ) → length load % 2 ≡ 0 → length (sealed_of load) ≡ sealed_length (length load)
+pub length_sealed : (load : List ℕ) → length load % 2 ≡ 0 → length (sealed_of load) ≡ sealed_length (length load)
 length_sealed load even =
     let checked = length_checked (cleared_of load) ∙ ap (λ k. k + crc_length k) (length_cleared load) in
     sym (padded_sealed load (length (checked_of (cleared_of load))) even refl) ∙ ap (λ k. next_multiple_of k 4) checked
@@ -109,7 +113,7 @@ sealed_length_lem n m even every =
     sym (sealed_to n even zeros size) ∙ every zeros size
 
 -- a load's length gives a packet's length
-length_within : (n : ℕ) → Sealable n → packet_length (sealed_length n) ≡ true
+pub length_within : (n : ℕ) → Sealable n → packet_length (sealed_length n) ≡ true
 length_within n h = grind arith
 
 -- above 84 bytes the load has more than 80

@@ -46,7 +46,7 @@ const BASE: u32 = 16;
 fn are_digits(digits: &[u8]) -> bool
     ensures { IsTrue result ↔ All (λ d. digit_value d < 16) digits.now }
 {
-    digits.iter().all(|digit| (*digit as char).is_digit(BASE))
+    digits.iter().all(|digit| digit.is_ascii_hexdigit())
 }
 
 // The value of a hexadecimal digit.
@@ -63,8 +63,8 @@ fn load_of(heap: Global, digits: &[u8]) -> Result<Vec<u8>, AllocError>
     requires { Pairs digits.now }
     ensures { IfOk result (λ load. load.items ≡ bytes_of digits.now) }
 {
-    let mut load = Vec::new(heap);
     let (pairs, _) = digits.as_chunks::<2>();
+    let mut load = Vec::with_capacity(heap, pairs.len())?;
     for [high, low] in pairs {
         load.push(value_of(*high) * 16 + value_of(*low))?;
     }

@@ -59,8 +59,12 @@ impl Lane for Steady {
         if buffer.len() < FRAME {
             return Err(Refusal::ShortBuffer);
         }
-        let (slot, ring) = self.ring.split_first(&self.slots).ok_or(Refusal::Nothing)?;
+        let (slot, ring) = self
+            .ring
+            .split_first_ref(&self.slots)
+            .ok_or(Refusal::Nothing)?;
+        let n = slot.copy_out(buffer);
         self.ring = ring;
-        Ok(slot.copy_out(buffer))
+        Ok(n)
     }
 }

@@ -3,7 +3,7 @@ use Rattle.std.proofs.Common.{◌≡◌, ◌-◌, ◌∷◌, take, ap, ◌∙◌
 use Rattle.fifo.specs.Turned.{turned}
 use Rattle.fifo.specs.Held.{in_ring}
 use Rattle.fifo.proofs.Turning.{ring_take, take_least}
-use Rattle.fifo.proofs.ring.Ring.split_first.Goals as goal
+use Rattle.fifo.proofs.ring.Ring.split_first_ref.Goals as goal
 
 pub returns-clause-splits : goal.returns-clause-splits
 returns-clause-splits g c =

@@ -41,10 +41,10 @@ module _ (la lb : ℕ) where
       (z.0, z.1, λ n. record { a = side_of (sym h.1 n) (rest n) k.a; b = side n })
 
   -- the port at which the call was made
-  at_port : (at x : PortId) → at ≡ x → (call : Call) (load : List ℕ) (i : Joint) (b : List ℕ) (r : Result Outcome Refusal) (j : Joint) (b' : List ℕ) → Performs la lb x call load i b r j b' → Performs la lb at call load i b r j b'
+  pub at_port : (at x : PortId) → at ≡ x → (call : Call) (load : List ℕ) (i : Joint) (b : List ℕ) (r : Result Outcome Refusal) (j : Joint) (b' : List ℕ) → Performs la lb x call load i b r j b' → Performs la lb at call load i b r j b'
   at_port at x is call load i b r j b' h = subst (λ y. Performs la lb y call load i b r j b') (sym is) h
 
-  keeps_delivering : (at : PortId) (call : Call) (load : List ℕ) (i : Joint) (b : List ℕ) (r : Result Outcome Refusal) (j : Joint) (b' : List ℕ) → Performs la lb at call load i b r j b' → KeepsDelivering la lb at load i r j b'
+  pub keeps_delivering : (at : PortId) (call : Call) (load : List ℕ) (i : Joint) (b : List ℕ) (r : Result Outcome Refusal) (j : Joint) (b' : List ℕ) → Performs la lb at call load i b r j b' → KeepsDelivering la lb at load i r j b'
   keeps_delivering at call load i b r j b' h k was =
       let z = stepped at call load i b r j b' k h in
       delivering j _ (subst (Reached 32 serial la lb) z.2 (one_more (link_of i k) at load (length b) call z.0 z.1 was))

@@ -6,12 +6,13 @@ use Rattle.lane.specs.Meaning.{Frames}
 use Rattle.lane.specs.Plans.{plan_of}
 use Rattle.rules.specs.declared.state.PortId.{PortId}
 use Rattle.rules.specs.declared.state.PortId.TheVariants.{A as port_a, B as port_b}
+use Rattle.port.specs.Model.{port_of}
 use Rattle.link.specs.declared.Link.{Link}
 use Rattle.link.specs.Joint.{Joint}
 
 -- Its ports, and the frames that wait in its lanes.
 abbrev pub joint_in : {A B : Type 0} → (A → Frames) → (B → Frames) → Link A B → Joint
-joint_in waiting_a waiting_b l = record { a = l.a; b = l.b; from_a = waiting_a l.from_a; from_b = waiting_b l.from_b }
+joint_in waiting_a waiting_b l = record { a = port_of l.a; b = port_of l.b; from_a = waiting_a l.from_a; from_b = waiting_b l.from_b }
 
 -- A lane starts this plan, and all that waits in it stays.
 abbrev pub Starts : {L : Type 0} → List Fate → Noisy L → Noisy L → Type 0

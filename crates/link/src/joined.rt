@@ -1,6 +1,7 @@
 // The link's own calls. Clauses see a link by its parts and what waits in its lanes: it has no view of its own, since a plan's promise
 // names the lanes themselves.
 ghost use Rattle.std.specs.Prelude.{◌≡◌, length};
+ghost use Rattle.port.specs.Model.{port_of};
 ghost use Rattle.link.specs.Joint.{Joint, port_at, Performs, KeepsDelivering, StartsDelivering};
 ghost use Rattle.link.specs.Model.{joint_in, PlansAt};
 
@@ -16,7 +17,7 @@ use rules::state::PortId;
 impl<'r, 's, 'w, 'x, A: Lane, B: Lane> Link<'r, 's, 'w, 'x, A, B> {
     // Joins two ports by two lanes: a writes `from_a`, and b writes `from_b`.
     pub fn new(a: Port<'r, 'w>, b: Port<'s, 'x>, from_a: A, from_b: B) -> Link<'r, 's, 'w, 'x, A, B>
-        ensures joins { joint_in A.Lane.waiting B.Lane.waiting result ≡ record { a = a.entry; b = b.entry; from_a = A.Lane.waiting from_a; from_b = B.Lane.waiting from_b } }
+        ensures joins { joint_in A.Lane.waiting B.Lane.waiting result ≡ record { a = port_of a.entry; b = port_of b.entry; from_a = A.Lane.waiting from_a; from_b = B.Lane.waiting from_b } }
         ensures delivery { StartsDelivering A.Lane.LIMIT B.Lane.LIMIT (joint_in A.Lane.waiting B.Lane.waiting result) }
     {
         Link {

@@ -1,5 +1,6 @@
 // One call at one port.
 ghost use Rattle.std.specs.Prelude.{length};
+ghost use Rattle.port.specs.Model.{port_of};
 ghost use Rattle.link.specs.Performing.{Scene, Does};
 
 use crate::call::{Call, Outcome};
@@ -18,7 +19,7 @@ pub(crate) fn perform_at<O: Lane, I: Lane>(
     load: &[u8],
     buffer: &mut [u8],
 ) -> Result<Outcome, Refusal>
-    ensures { Does O.Lane.LIMIT call load.now (record { port = port.entry.now; out = O.Lane.waiting out.old; incoming = I.Lane.waiting incoming.old; buffer = buffer.old }) result (record { port = port.exit.now; out = O.Lane.waiting out.new; incoming = I.Lane.waiting incoming.new; buffer = buffer.new }) }
+    ensures { Does O.Lane.LIMIT call load.now (record { port = port_of port.entry.now; out = O.Lane.waiting out.old; incoming = I.Lane.waiting incoming.old; buffer = buffer.old }) result (record { port = port_of port.exit.now; out = O.Lane.waiting out.new; incoming = I.Lane.waiting incoming.new; buffer = buffer.new }) }
 {
     match call {
         Call::Submit => {

@@ -2,11 +2,16 @@
 use Rattle.std.proofs.Common.{◌≡◌, ℕ, zero, suc, ◌<◌, ◌≤◌, Bool, true, false, cond, ◌||◌, eqb, ◌≢◌, List, [], ◌∷◌, ◌++◌, map, length, sym, refl, ap, ◌∙◌, arith}
 use Rattle.std.proofs.lemmas.Bool.{eqb-true, eqb-false, ne_eqb, or_parts}
 use Rattle.std.proofs.lemmas.List.{map_push}
+use Rattle.std.proofs.lemmas.List.Folds.{list_any-append}
 use Rattle.port.specs.declared.record.WaitingSlot.{WaitingSlot}
 use Rattle.port.specs.declared.slots.Slots.{Slots}
 use Rattle.port.specs.Slots.{front_in}
 use Rattle.port.specs.Waiting.{recorded}
 use Rattle.port.specs.Inner.{is_named}
+
+-- some records in two parts
+pub named_parts : (slot : ℕ) (older newer all : List WaitingSlot) → older ++ newer ≡ all → (is_named slot older || is_named slot newer) ≡ is_named slot all
+named_parts slot older newer all is = sym (list_any-append (λ r. eqb r.slot slot) older newer) ∙ ap (is_named slot) is
 
 -- the records without the first that names a slot
 without : ℕ → List WaitingSlot → List WaitingSlot

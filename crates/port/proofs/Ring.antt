@@ -3,14 +3,13 @@ use Rattle.std.proofs.Common.{◌≡◌, ℕ, ◌+◌, ◌-◌, ◌<◌, ◌≤�
 use Rattle.std.proofs.lemmas.List.{length-map}
 use Rattle.fifo.proofs.Turning.{length_ring, ring_put, ring_drop, ring_get_or}
 use Rattle.fifo.specs.Turned.{turned, At}
-use Rattle.port.specs.declared.sending.Sending.TheInside.{Inside}
+use Rattle.port.specs.declared.sending.Sending.{Sending}
 use Rattle.port.specs.Slots.{packets_in}
 use Rattle.port.specs.Held.{held_of}
 
--- the fields of a sending half
-module _ (s : Inside) (slots : length s.slots.all ≡ 31) where
-  length_packets : length (packets_in s.slots) ≡ 31
-  length_packets = simp length-map slots
+module _ (s : Sending) where
+  pub length_packets : length (packets_in s.slots) ≡ 31
+  length_packets = simp length-map s.places
 
   pub length_held : length (held_of s) ≡ s.window.held
   length_held =

@@ -2,6 +2,7 @@
 ghost use Rattle.std.specs.Prelude.{◌≡◌, ◌<◌, ◌≤◌, length, Some};
 ghost use Rattle.rules.specs.Calls.{due};
 ghost use Rattle.rules.specs.Serial.{serial};
+ghost use Rattle.port.specs.Model.{port_of};
 ghost use Rattle.port.specs.Inner.{answered, Writes};
 
 use crate::{Port, wire};
@@ -12,13 +13,12 @@ use symbol::codes::Stype1;
 impl<'r, 'w> Port<'r, 'w> {
     // What is due, if anything.
     pub(crate) fn due(&self) -> Option<Sent>
-        ensures { result ≡ answered (due 32 serial self.now) }
+        ensures { result ≡ answered (due 32 serial (port_of self.now)) }
     {
         if self.receiving.has_reply() {
             return Some(Sent::Reply);
         }
-        let sending = &self.sending;
-        match sending.output {
+        match self.sending.output {
             Output::Running => {
                 if self.sending.has_unsent() {
                     Some(Sent::Packet)
@@ -34,8 +34,8 @@ impl<'r, 'w> Port<'r, 'w> {
 
     // Writes what is due to the front of a buffer and answers its length.
     pub(crate) fn write_due(&mut self, what: Sent, buffer: &mut [u8; FRAME]) -> usize
-        requires { answered (due 32 serial self.old) ≡ Some what }
-        ensures { Writes (due 32 serial self.old) buffer.old result self.new buffer.new }
+        requires { answered (due 32 serial (port_of self.old)) ≡ Some what }
+        ensures { Writes (due 32 serial (port_of self.old)) buffer.old result (port_of self.new) buffer.new }
     {
         match what {
             Sent::Reply => self.write_reply(buffer),
@@ -59,8 +59,8 @@ impl<'r, 'w> Port<'r, 'w> {
 
     // Writes the oldest pending reply.
     fn write_reply(&mut self, buffer: &mut [u8; FRAME]) -> usize
-        requires { 0 < length self.old.receiver.pending }
-        ensures { Writes (due 32 serial self.old) buffer.old result self.new buffer.new }
+        requires { 0 < length (port_of self.old).receiver.pending }
+        ensures { Writes (due 32 serial (port_of self.old)) buffer.old result (port_of self.new) buffer.new }
     {
         match self.receiving.take_reply() {
             Some(reply) => wire::write_symbol(wire::reply_symbol(reply), buffer),

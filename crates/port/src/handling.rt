@@ -3,6 +3,7 @@ ghost use Rattle.std.specs.Prelude.{◌≡◌};
 ghost use Rattle.rules.specs.Hearing.{heard};
 ghost use Rattle.rules.specs.Calls.{received_as};
 ghost use Rattle.rules.specs.Serial.{serial};
+ghost use Rattle.port.specs.Model.{port_of};
 ghost use Rattle.port.specs.Inner.{CanReply};
 
 use crate::ack::AckId;
@@ -16,9 +17,9 @@ use symbol::Symbol;
 impl<'r, 'w> Port<'r, 'w> {
     // A frame acts on the port, by what it is: of a symbol the first half acts first.
     pub(crate) fn handle(&mut self, frame: Frame<'_>) -> Received
-        requires { CanReply self.old.receiver self.old.places }
+        requires { CanReply (port_of self.old).receiver (port_of self.old).places }
         ensures answer { result ≡ received_as (serial.read frame.entry.bytes.now) }
-        ensures port { self.new ≡ heard 32 (serial.read frame.entry.bytes.now) self.old }
+        ensures port { port_of self.new ≡ heard 32 (serial.read frame.entry.bytes.now) (port_of self.old) }
     {
         match classify(frame.bytes) {
             Kind::Symbol(symbol) => {

@@ -23,22 +23,10 @@ mod wire;
 
 use receiving::Receiving;
 use sending::Sending;
-use std::marker::Model;
 
 // A port: what it sends, and what it receives.
 #[derive(Drop)]
 pub struct Port<'r, 'w> {
     sending: Sending,
     receiving: Receiving<'r, 'w>,
-}
-
-// Clauses see the port of the rules.
-impl<'r, 'w> Model for Port<'r, 'w> {
-    ghost use Rattle.rules.specs.Port.{Port as RulesPort};
-
-    ghost Value = { RulesPort };
-
-    ghost use Rattle.port.specs.Model.{port_of};
-
-    ghost view = { port_of };
 }

@@ -2,6 +2,7 @@
 ghost use Rattle.std.specs.Prelude.{◌≡◌, length, replicate};
 ghost use Rattle.rules.specs.declared.state.Reply.TheVariants.{Accepted};
 ghost use Rattle.rules.specs.Port.{fresh};
+ghost use Rattle.port.specs.Model.{port_of};
 ghost use Rattle.port.specs.Memory.{replies_in, records_in};
 
 use crate::Port;
@@ -32,7 +33,7 @@ impl Memory {
 
     // A fresh port, which has this memory as long as it is there.
     pub fn port(&mut self) -> Port<'_, '_>
-        ensures { result ≡ fresh (record { replies = 8; packets = 8 }) }
+        ensures { port_of result ≡ fresh (record { replies = 8; packets = 8 }) }
     {
         let Memory { replies, records } = self;
         Port::new(replies, records)

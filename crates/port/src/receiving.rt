@@ -6,7 +6,6 @@ use crate::record::WaitingSlot;
 use crate::slots::{RECEIVE_SLOTS, Slots};
 use fifo::Queue;
 use rules::state::Input;
-use std::marker::Model;
 
 pub mod hearing;
 pub mod storing;
@@ -20,13 +19,4 @@ pub struct Receiving<'r, 'w> {
     replies: Queue<'r, PendingReply>,
     records: Queue<'w, WaitingSlot>,
     slots: Slots<RECEIVE_SLOTS>,
-}
-
-// Clauses see the receiver of the rules, and the places of both queues.
-impl<'r, 'w> Model for Receiving<'r, 'w> {
-    ghost use Rattle.port.specs.Waiting.{Half, half_of};
-
-    ghost Value = { Half };
-
-    ghost view = { half_of };
 }

@@ -5,6 +5,7 @@ ghost use Rattle.packet.specs.Crc.{cleared_of};
 ghost use Rattle.rules.specs.Wire.{ack_id_of};
 ghost use Rattle.rules.specs.Hearing.{pended, status_for, asked, arrived, rejected};
 ghost use Rattle.rules.specs.Calls.{leaving};
+ghost use Rattle.port.specs.Waiting.{receiver_of, places_in};
 ghost use Rattle.port.specs.Inner.{CanReply};
 
 use super::Receiving;
@@ -16,24 +17,24 @@ use symbol::codes::{Cause, PortStatus, Stype1};
 impl<'r, 'w> Receiving<'r, 'w> {
     // How many replies have yet to go out.
     pub(crate) fn pending(&self) -> usize
-        ensures { result ≡ length self.now.receiver.pending }
+        ensures { result ≡ length (receiver_of self.now).pending }
     {
         self.replies.len()
     }
 
     // Whether there is no place for another reply.
     pub(crate) fn replies_full(&self) -> bool
-        ensures { result ≡ nat_le self.now.places.replies (length self.now.receiver.pending) }
+        ensures { result ≡ nat_le (places_in self.now).replies (length (receiver_of self.now).pending) }
     {
         self.replies.places() <= self.replies.len()
     }
 
     // The input turns to another state, and a reply is pended.
     fn pend(&mut self, input: Input, reply: Reply)
-        requires place { CanReply self.old.receiver self.old.places }
+        requires place { CanReply (receiver_of self.old) (places_in self.old) }
         requires within { ack_id_of reply < 32 }
-        ensures receiver { self.new.receiver ≡ pended input reply self.old.receiver }
-        ensures places { self.new.places ≡ self.old.places }
+        ensures receiver { receiver_of self.new ≡ pended input reply (receiver_of self.old) }
+        ensures places { places_in self.new ≡ places_in self.old }
     {
         self.input = input;
         let _ = self.replies.put(PendingReply { reply });
@@ -41,7 +42,7 @@ impl<'r, 'w> Receiving<'r, 'w> {
 
     // The input's state, as a response gives it.
     fn status(&self) -> PortStatus
-        ensures { result ≡ status_for self.now.receiver.input }
+        ensures { result ≡ status_for (receiver_of self.now).input }
     {
         match self.input {
             Input::Ready => PortStatus::Ready,
@@ -52,9 +53,9 @@ impl<'r, 'w> Receiving<'r, 'w> {
 
     // What the second half of a symbol asks.
     pub(crate) fn obey(&mut self, asks: Option<Stype1>)
-        requires { CanReply self.old.receiver self.old.places }
-        ensures receiver { self.new.receiver ≡ asked self.old.receiver.input asks self.old.receiver }
-        ensures places { self.new.places ≡ self.old.places }
+        requires { CanReply (receiver_of self.old) (places_in self.old) }
+        ensures receiver { receiver_of self.new ≡ asked (receiver_of self.old).input asks (receiver_of self.old) }
+        ensures places { places_in self.new ≡ places_in self.old }
     {
         match (self.input, asks) {
             (_, Some(Stype1::Request)) => self.pend(
@@ -68,9 +69,9 @@ impl<'r, 'w> Receiving<'r, 'w> {
 
     // An unsound frame.
     pub(crate) fn reject(&mut self, cause: Cause)
-        requires { CanReply self.old.receiver self.old.places }
-        ensures receiver { self.new.receiver ≡ rejected self.old.receiver.input cause self.old.receiver }
-        ensures places { self.new.places ≡ self.old.places }
+        requires { CanReply (receiver_of self.old) (places_in self.old) }
+        ensures receiver { receiver_of self.new ≡ rejected (receiver_of self.old).input cause (receiver_of self.old) }
+        ensures places { places_in self.new ≡ places_in self.old }
     {
         match (self.input, cause) {
             (Input::Ready, _)
@@ -86,9 +87,9 @@ impl<'r, 'w> Receiving<'r, 'w> {
 
     // A sound packet, under its ackID.
     pub(crate) fn arrive(&mut self, ack_id: u8, packet: Frame<'_>)
-        requires { CanReply self.old.receiver self.old.places }
-        ensures receiver { self.new.receiver ≡ arrived 32 self.old.places self.old.receiver.input ack_id (cleared_of packet.entry.bytes.now) self.old.receiver }
-        ensures places { self.new.places ≡ self.old.places }
+        requires { CanReply (receiver_of self.old) (places_in self.old) }
+        ensures receiver { receiver_of self.new ≡ arrived 32 (places_in self.old) (receiver_of self.old).input ack_id (cleared_of packet.entry.bytes.now) (receiver_of self.old) }
+        ensures places { places_in self.new ≡ places_in self.old }
     {
         let Input::Ready = self.input else {
             return;
@@ -108,16 +109,16 @@ impl<'r, 'w> Receiving<'r, 'w> {
 
     // Whether a reply is pending.
     pub(crate) fn has_reply(&self) -> bool
-        ensures { result ≡ nat_lt 0 (length self.now.receiver.pending) }
+        ensures { result ≡ nat_lt 0 (length (receiver_of self.now).pending) }
     {
         self.replies.len() > 0
     }
 
     // Removes the oldest pending reply, where there is one.
     pub(crate) fn take_reply(&mut self) -> Option<PendingReply>
-        ensures answer { result ≡ oldest self.old.receiver.pending }
-        ensures receiver { self.new.receiver ≡ leaving (drop 1 self.old.receiver.pending) self.old.receiver }
-        ensures places { self.new.places ≡ self.old.places }
+        ensures answer { result ≡ oldest (receiver_of self.old).pending }
+        ensures receiver { receiver_of self.new ≡ leaving (drop 1 (receiver_of self.old).pending) (receiver_of self.old) }
+        ensures places { places_in self.new ≡ places_in self.old }
     {
         self.replies.take().ok()
     }

@@ -4,6 +4,7 @@ ghost use Rattle.fifo.specs.Held.{queued};
 ghost use Rattle.packet.specs.Crc.{cleared_of};
 ghost use Rattle.rules.specs.Port.{Places, fresh, has_slot};
 ghost use Rattle.rules.specs.Calls.{keeping};
+ghost use Rattle.port.specs.Waiting.{receiver_of, places_in};
 ghost use Rattle.port.specs.Inner.{is_named, FindsFree, stored, Gives};
 
 use super::Receiving;
@@ -17,11 +18,19 @@ use lane::FRAME;
 use refusal::Refusal;
 use rules::state::Input;
 
-// Whether a record names a slot.
+// Whether one of some records names a slot.
+fn names(records: &[WaitingSlot], slot: u8) -> bool
+    ensures { result ≡ is_named slot records.now }
+{
+    records.iter().any(|record| record.slot == slot)
+}
+
+// Whether a record in a queue does.
 fn is_named(records: &Queue<'_, WaitingSlot>, slot: u8) -> bool
     ensures { result ≡ is_named slot (queued records.now) }
 {
-    records.iter().any(|record| record.slot == slot)
+    let (older, newer) = records.as_slices();
+    names(older, slot) || names(newer, slot)
 }
 
 // A slot that no record names. There is one unless eight packets wait.
@@ -39,9 +48,9 @@ impl<'r, 'w> Receiving<'r, 'w> {
         replies: &'r mut [PendingReply],
         records: &'w mut [WaitingSlot],
     ) -> Receiving<'r, 'w>
-        ensures receiver { (places : Places) → result.receiver ≡ (fresh places).receiver }
-        ensures replies { result.places.replies ≡ length replies.old }
-        ensures packets { result.places.packets ≡ length records.old }
+        ensures receiver { (places : Places) → receiver_of result ≡ (fresh places).receiver }
+        ensures replies { (places_in result).replies ≡ length replies.old }
+        ensures packets { (places_in result).packets ≡ length records.old }
     {
         Receiving {
             input: Input::Ready,
@@ -54,7 +63,7 @@ impl<'r, 'w> Receiving<'r, 'w> {
 
     // How many packets wait.
     pub(crate) fn waiting(&self) -> usize
-        ensures { result ≡ length self.now.receiver.waiting }
+        ensures { result ≡ length (receiver_of self.now).waiting }
     {
         self.records.len()
     }
@@ -62,9 +71,9 @@ impl<'r, 'w> Receiving<'r, 'w> {
     // Stores a packet, its first six bits set to zero, where there is a free slot and a place for its record. Whether there is
     // one is a yes or no, as the rules ask it, and no refusal.
     pub(crate) fn store(&mut self, packet: Frame<'_>) -> bool
-        ensures answer { result ≡ has_slot self.old.places self.old.receiver.waiting }
-        ensures receiver { self.new.receiver ≡ keeping (stored result (cleared_of packet.entry.bytes.now) self.old.receiver.waiting) self.old.receiver }
-        ensures places { self.new.places ≡ self.old.places }
+        ensures answer { result ≡ has_slot (places_in self.old) (receiver_of self.old).waiting }
+        ensures receiver { receiver_of self.new ≡ keeping (stored result (cleared_of packet.entry.bytes.now) (receiver_of self.old).waiting) (receiver_of self.old) }
+        ensures places { places_in self.new ≡ places_in self.old }
     {
         let Some(slot) = free_slot(&self.records) else {
             return false;
@@ -84,9 +93,9 @@ impl<'r, 'w> Receiving<'r, 'w> {
 
     // Copies the oldest packet to the front of a buffer, answers its length and removes it. Refused with 4 where none waits.
     pub(crate) fn give(&mut self, buffer: &mut [u8; FRAME]) -> Result<usize, Refusal>
-        ensures gives { Gives self.old.receiver.waiting buffer.old result self.new.receiver.waiting buffer.new }
-        ensures receiver { self.new.receiver ≡ keeping self.new.receiver.waiting self.old.receiver }
-        ensures places { self.new.places ≡ self.old.places }
+        ensures gives { Gives (receiver_of self.old).waiting buffer.old result (receiver_of self.new).waiting buffer.new }
+        ensures receiver { receiver_of self.new ≡ keeping (receiver_of self.new).waiting (receiver_of self.old) }
+        ensures places { places_in self.new ≡ places_in self.old }
     {
         let record = self.records.take()?;
         let len = record.len as usize;

@@ -4,6 +4,7 @@ ghost use Rattle.symbol.specs.declared.codes.PortStatus.TheVariants.{Failed};
 ghost use Rattle.symbol.specs.Codes.{status_of};
 ghost use Rattle.rules.specs.Hearing.{means_first, freed, rewound, response, said};
 ghost use Rattle.rules.specs.Calls.{overdue, asking};
+ghost use Rattle.port.specs.Held.{sender_of};
 
 use super::Sending;
 use crate::ack::AckId;
@@ -22,15 +23,15 @@ fn has_failed(status: u8) -> bool
 impl Sending {
     // Whether an ackID is that of the first packet held, and that was sent.
     fn means_first(&self, ack_id: AckId) -> bool
-        ensures { result ≡ means_first ack_id self.now }
+        ensures { result ≡ means_first ack_id (sender_of self.now) }
     {
         self.window.sent > 0 && ack_id.value == self.window.first
     }
 
     // Frees the first d packets held; s of the others count as sent, and output runs.
     fn free(&mut self, d: u8, s: u8)
-        requires { d + s ≤ self.old.high }
-        ensures { self.new ≡ freed 32 d s self.old }
+        requires { d + s ≤ (sender_of self.old).high }
+        ensures { sender_of self.new ≡ freed 32 d s (sender_of self.old) }
     {
         self.base = place(self.base, d as usize, SEND_SLOTS);
         self.window = self.window.free(d, s);
@@ -39,7 +40,7 @@ impl Sending {
 
     // All packets held are to be sent again, after a restart.
     fn rewind(&mut self)
-        ensures { self.new ≡ rewound true self.old }
+        ensures { sender_of self.new ≡ rewound true (sender_of self.old) }
     {
         self.window = self.window.rewind();
         self.output = Output::RetryStopped;
@@ -48,7 +49,7 @@ impl Sending {
     // An awaited response: the packets before the one that the other port expects are freed, and the rest sent again.
     // The status is a number here, since a second parameter is a status in a response alone, and may be one without a name.
     fn resume(&mut self, ack_id: AckId, status: u8)
-        ensures { self.new ≡ response 32 ack_id status self.old }
+        ensures { sender_of self.new ≡ response 32 ack_id status (sender_of self.old) }
     {
         let d = self.window.distance_to(ack_id);
         if has_failed(status) || d > self.window.high {
@@ -60,7 +61,7 @@ impl Sending {
 
     // What a symbol says first, by the output, with an ackID and a second parameter.
     pub(crate) fn hear(&mut self, says: Option<Stype0>, ack_id: AckId, parameter1: u8)
-        ensures { self.new ≡ said 32 self.old.output says ack_id parameter1 self.old }
+        ensures { sender_of self.new ≡ said 32 (sender_of self.old).output says ack_id parameter1 (sender_of self.old) }
     {
         match (self.output, says) {
             (Output::Running, Some(Stype0::Accepted)) => {
@@ -89,8 +90,8 @@ impl Sending {
 
     // What was sent and stays unanswered is asked for. Answers whether there was such.
     pub(crate) fn time_out(&mut self) -> bool
-        ensures answer { result ≡ overdue self.old }
-        ensures sender { self.new ≡ asking result self.old }
+        ensures answer { result ≡ overdue (sender_of self.old) }
+        ensures sender { sender_of self.new ≡ asking result (sender_of self.old) }
     {
         let overdue = match self.output {
             Output::Running => self.window.sent > 0,

@@ -5,6 +5,7 @@ ghost use Rattle.rules.specs.declared.state.Output.TheVariants.{Running};
 ghost use Rattle.rules.specs.Port.{Places, fresh};
 ghost use Rattle.rules.specs.Hearing.{turned};
 ghost use Rattle.rules.specs.Calls.{holding, one_more_sent};
+ghost use Rattle.port.specs.Held.{sender_of};
 ghost use Rattle.port.specs.Inner.{next_frame};
 
 use super::Sending;
@@ -18,7 +19,7 @@ use rules::state::Output;
 
 impl Sending {
     pub(crate) fn new() -> Sending
-        ensures { (places : Places) → result ≡ (fresh places).sender }
+        ensures { (places : Places) → sender_of result ≡ (fresh places).sender }
     {
         Sending {
             window: Window::new(),
@@ -30,7 +31,7 @@ impl Sending {
 
     // How many packets are held.
     pub(crate) fn held(&self) -> usize
-        ensures value { result ≡ length self.now.held }
+        ensures value { result ≡ length (sender_of self.now).held }
         ensures most { result ≤ 31 }
     {
         self.window.held as usize
@@ -38,15 +39,15 @@ impl Sending {
 
     // The output turns to another state.
     pub(crate) fn turn(&mut self, output: Output)
-        ensures { self.new ≡ turned output self.old }
+        ensures { sender_of self.new ≡ turned output (sender_of self.old) }
     {
         self.output = output;
     }
 
     // Seals a load and holds its packet.
     pub(crate) fn hold(&mut self, load: SealableLoad<'_>)
-        requires { length self.old.held < 31 }
-        ensures { self.new ≡ holding (sealed_of load.entry.bytes.now) self.old }
+        requires { length (sender_of self.old).held < 31 }
+        ensures { sender_of self.new ≡ holding (sealed_of load.entry.bytes.now) (sender_of self.old) }
     {
         let i = place(self.base, self.window.held as usize, SEND_SLOTS);
         self.slots.seal(i, load);
@@ -55,18 +56,18 @@ impl Sending {
 
     // Whether a packet is held that was not sent since the last rewind.
     pub(crate) fn has_unsent(&self) -> bool
-        ensures { result ≡ nat_lt self.now.sent (length self.now.held) }
+        ensures { result ≡ nat_lt (sender_of self.now).sent (length (sender_of self.now).held) }
     {
         self.window.sent < self.window.held
     }
 
     // Writes the next packet to the front of a buffer, stamped with its ackID, and answers its length.
     pub(crate) fn send(&mut self, buffer: &mut [u8; FRAME]) -> usize
-        requires { (self.old.output ≡ Running) × (self.old.sent < length self.old.held) }
-        ensures len { result ≡ length (next_frame self.old) }
+        requires { ((sender_of self.old).output ≡ Running) × ((sender_of self.old).sent < length (sender_of self.old).held) }
+        ensures len { result ≡ length (next_frame (sender_of self.old)) }
         ensures bounds { (1 ≤ result) × (result ≤ 276) }
-        ensures bytes { buffer.new ≡ written_over (next_frame self.old) buffer.old }
-        ensures sender { self.new ≡ one_more_sent self.old }
+        ensures bytes { buffer.new ≡ written_over (next_frame (sender_of self.old)) buffer.old }
+        ensures sender { sender_of self.new ≡ one_more_sent (sender_of self.old) }
     {
         let i = place(self.base, self.window.sent as usize, SEND_SLOTS);
         let n = self.slots.copy_out(i, buffer);
@@ -77,8 +78,8 @@ impl Sending {
 
     // One more packet counts as sent; all stay held.
     fn count_sent(&mut self)
-        requires { (self.old.output ≡ Running) × (self.old.sent < length self.old.held) }
-        ensures { self.new ≡ one_more_sent self.old }
+        requires { (self.old.output ≡ Running) × (self.old.window.sent < self.old.window.held) }
+        ensures { sender_of self.new ≡ one_more_sent (sender_of self.old) }
     {
         self.window = self.window.send();
     }

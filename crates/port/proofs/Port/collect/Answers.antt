@@ -1,10 +1,11 @@
 use Rattle.rules.specs.Calls.{collect_first}
+use Rattle.port.specs.Model.{port_of}
 use Rattle.port.proofs.Whole.{stays_whole, copied_whole, agrees_whole}
 use Rattle.port.proofs.Port.collect.Goals as goal
 
 pub returns : goal.returns
 returns c =
-    let p = c.args.self.now in
+    let p = port_of c.args.self.now in
     let b = c.args.buffer.now in
     let front = c.in-Some.front.now in
     let after = c.collect_to.new.buffer in

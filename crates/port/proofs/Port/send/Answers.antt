@@ -1,11 +1,12 @@
 use Rattle.rules.specs.Calls.{due, send_due}
 use Rattle.rules.specs.Serial.{serial}
+use Rattle.port.specs.Model.{port_of}
 use Rattle.port.proofs.Whole.{stays_whole, copied_whole, agrees_whole}
 use Rattle.port.proofs.Port.send.Goals as goal
 
 pub returns : goal.returns
 returns g c =
-    let p = c.args.self.now in
+    let p = port_of c.args.self.now in
     let b = c.args.buffer.now in
     let front = c.in-Some.front.now in
     let after = c.send_by.new.buffer in
